@@ -1,0 +1,6 @@
+-- Laws that every layer cites, each under what it is about.
+pub mod Tests
+pub mod Scans
+pub mod Overwrites
+pub mod Columns
+pub mod Parts
