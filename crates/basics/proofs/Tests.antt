@@ -1,7 +1,8 @@
 -- Tests that refuse by a number: from the code's branches to the number, and from a number that is 0 back to what holds.
 --     unless-holds, unless-fails   one test, passed or failed
+--     refuse-if, refuse-not        one fault, there or not
 --     firstOf-pass, firstOf-stop   a list of tests, past one that is 0 or stopped at one that is not
---     unless-zero, firstOf-zero    what an unrefused call knows
+--     unless-zero, refuse-zero, firstOf-zero    what an unrefused call knows
 -- Assumes nothing.
 use mathlib.Core.Path.{_≡_, refl}
 use mathlib.Core.Logic.{_⊎_, inl, inr, ⊎-elim}
@@ -12,7 +13,7 @@ use native.Mathlib.Nat.{suc-ne-zero, lt-of-not-le}
 use native.Mathlib.Decide.{decLe}
 use lib.Dec.{eqb}
 use borrow.Author.Tests.{eq-eqb, ne-eqb}
-use Rattle.basics.specs.Tests.{unless, firstOf}
+use Rattle.basics.specs.Tests.{unless, refuseIf, firstOf}
 
 pub unless-holds : (b : Bool) (n : ℕ) → b ≡ true → unless b n ≡ 0
 unfolding unless
@@ -27,6 +28,20 @@ pub unless-zero : (b : Bool) (n : ℕ) → unless b (suc n) ≡ 0 → b ≡ true
 unfolding unless
 unless-zero true n e = refl
 unless-zero false n e = absurd (suc-ne-zero n e)
+
+pub refuse-if : (b : Bool) (n : ℕ) → b ≡ true → refuseIf b n ≡ n
+unfolding refuseIf
+refuse-if b n e = rw e
+
+pub refuse-not : (b : Bool) (n : ℕ) → b ≡ false → refuseIf b n ≡ 0
+unfolding refuseIf
+refuse-not b n e = rw e
+
+-- a fault whose number is not 0 is absent exactly if it gives 0
+pub refuse-zero : (b : Bool) (n : ℕ) → refuseIf b (suc n) ≡ 0 → b ≡ false
+unfolding refuseIf
+refuse-zero true n e = absurd (suc-ne-zero n e)
+refuse-zero false n e = refl
 
 pub firstOf-pass : (n : ℕ) (ns : List ℕ) → n ≡ 0 → firstOf (n ∷ ns) ≡ firstOf ns
 unfolding firstOf

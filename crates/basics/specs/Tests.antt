@@ -9,6 +9,11 @@ unfoldable pub unless : Bool → ℕ → ℕ
 unless true number = 0
 unless false number = number
 
+-- the number that refuses where the fault is there, else 0
+unfoldable pub refuseIf : Bool → ℕ → ℕ
+refuseIf true number = number
+refuseIf false number = 0
+
 -- the first that is not 0, or 0: which of several tests, in order, refuses
 unfoldable pub firstOf : List ℕ → ℕ
 firstOf [] = 0
