@@ -2,25 +2,22 @@
 // A run's digests are compared with another's, so that bytes need not be kept.
 ghost use mathlib.Core.Path.{_≡_};
 ghost use Prim.Native.Nat.{_*_, _%_, _^_};
-ghost use Rattle.digest.specs.Fnv.{digestOf};
+ghost use Rattle.digest.specs.Fnv.{prime, digestOf};
 
 // FNV's 64-bit offset basis: the digest of no bytes.
 pub const OFFSET_BASIS: u64 = 0xcbf2_9ce4_8422_2325;
 
-// FNV's 64-bit prime.
-pub const PRIME: u64 = 0x0000_0100_0000_01B3;
-
-// The product modulo 2^64, by halves of 32 bits: the product of the two high halves is a multiple of 2^64, and of the two
-// mixed ones only the low 32 bits reach below it. The compiler folds this to one multiplication.
-pub fn wrapping_mul(a: u64, b: u64) -> u64
-    ensures { λ r. ⌜ r ≡ a * b % 2 ^ 64 ⌝ }
+// The product with FNV's 64-bit prime, modulo 2^64. The prime is 2^40 + 2^8 + 2^7 + 2^5 + 2^4 + 2 + 1; the compiler folds the
+// sum of shifts to one multiplication.
+pub fn wrapping_mul_prime(hash: u64) -> u64
+    ensures { λ r. ⌜ r ≡ hash * prime % 2 ^ 64 ⌝ }
 {
-    let a_high = a / 0x1_0000_0000;
-    let a_low = a % 0x1_0000_0000;
-    let b_high = b / 0x1_0000_0000;
-    let b_low = b % 0x1_0000_0000;
-    let mixed = std::num::wrapping_add_u64(a_high * b_low, a_low * b_high);
-    std::num::wrapping_add_u64(mixed << 32, a_low * b_low)
+    let by_3 = std::num::wrapping_add_u64(hash << 1, hash);
+    let by_19 = std::num::wrapping_add_u64(hash << 4, by_3);
+    let by_51 = std::num::wrapping_add_u64(hash << 5, by_19);
+    let by_179 = std::num::wrapping_add_u64(hash << 7, by_51);
+    let by_435 = std::num::wrapping_add_u64(hash << 8, by_179);
+    std::num::wrapping_add_u64(hash << 40, by_435)
 }
 
 // FNV-1a over all the bytes.
@@ -31,7 +28,7 @@ pub fn digest(bytes: &[u8]) -> u64
     let mut i = 0;
     while i < bytes.len() {
         let mixed = hash ^ (bytes[i] as u64);
-        hash = wrapping_mul(mixed, PRIME);
+        hash = wrapping_mul_prime(mixed);
         i += 1;
     }
     hash
