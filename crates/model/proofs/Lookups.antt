@@ -15,7 +15,7 @@ use lib.Dec.{eqb}
 use borrow.Author.Tests.{eqb-true, eqb-false}
 use Rattle.model.specs.Ledger.{Entry, ids, picked, lookup, passes}
 use Rattle.model.specs.Columns.{entryOf, ledgerOf}
-use Rattle.model.specs.Ids.{further, placeOf}
+use Rattle.model.specs.Ids.{further, placeOf, Distinct}
 use Rattle.model.specs.declared.Place.{Place}
 use Rattle.model.specs.declared.Place.the-variants.{NoPlace, PlaceIs}
 
@@ -103,3 +103,16 @@ module _ (test : Entry → Bool) (x : ℕ) where
           → passes test (cond b (some f) (lookup x es)) ≡ true → List·Memᴰ x (ids (picked test (f ∷ es)))
       step r true b e = picked-head f es (sym (eqb-true (f .id) x b)) e
       step r false b e = picked-tail f es (r e)
+
+  -- where no id stands twice, what passes a test was found by a lookup
+  pub looked-only : (l : List Entry) → Distinct (ids l) → List·Memᴰ x (ids (picked test l)) → passes test (lookup x l) ≡ true
+  unfolding ids picked lookup
+  looked-only [] d m = absurd (List·Memᴰ·not-nil m)
+  looked-only (f ∷ es) d m = step (looked-only es (d .1)) (eqb (f .id) x) refl (in-picked f es m)
+    where
+      step : (List·Memᴰ x (ids (picked test es)) → passes test (lookup x es) ≡ true) → (b : Bool) → eqb (f .id) x ≡ b
+          → ((x ≡ f .id) × (test f ≡ true)) ⊎ List·Memᴰ x (ids (picked test es)) → passes test (cond b (some f) (lookup x es)) ≡ true
+      step r true b (inl w) = w .1
+      step r true b (inr m) = absurd (d .0 (Memᴰ·cast (eqb-true (f .id) x b) (picked-in es m)))
+      step r false b (inl w) = absurd (eqb-false (f .id) x b (sym (w .0)))
+      step r false b (inr m) = r m

@@ -1,6 +1,7 @@
--- What is asked of a list of ids: whether one is among them, and where it first stands. Assumes nothing.
+-- What is asked of a list of ids: whether one is among them, where it first stands, and whether one stands twice. Assumes
+-- nothing.
 use mathlib.Core.Bool.{Bool, true, false, cond, _||_}
-use mathlib.Core.List.{List, [], _∷_}
+use mathlib.Core.List.{List, [], _∷_, List·Memᴰ}
 use Prim.Native.Nat.{ℕ, suc}
 use lib.Dec.{eqb}
 use Rattle.model.specs.declared.Place.{Place}
@@ -20,3 +21,8 @@ further (PlaceIs n) = PlaceIs (suc n)
 unfoldable pub placeOf : ℕ → List ℕ → Place
 placeOf x [] = NoPlace
 placeOf x (y ∷ ys) = cond (eqb y x) (PlaceIs 0) (further (placeOf x ys))
+
+-- no id stands twice
+abbrev pub Distinct : List ℕ → Type 0
+Distinct [] = Unit {0}
+Distinct (x ∷ xs) = (List·Memᴰ x xs → ⊥) × Distinct xs
