@@ -175,12 +175,16 @@ module _ (is ss h : List ℕ) where
     unfolding DifferFrom differs
     differ-done n = sym (e ∙ at-end (differs p (idsFrom 1 (drop i is) (drop i ss))) h p (omega arith))
 
-    pub differ-past : length is ≤ i → p ≤ length h → (p ≡ length h → ⊥) → NotAPrefix p NoRecord (getD h p 0) ≡ differs 0 (idsFrom 1 is ss) h
+    pub differ-past : length is ≤ i → p < length h → NotAPrefix p NoRecord (getD h p 0) ≡ differs 0 (idsFrom 1 is ss) h
     unfolding DifferFrom differs
-    differ-past b r n =
+    differ-past b r =
         sym (e
         ∙ ap (λ (cs : List ℕ). differs p cs (drop p h)) (from-end 1 is ss i l b)
-        ∙ at-step (differs p []) h p 0 (omega arith))
+        ∙ at-step (differs p []) h p 0 r)
+
+    pub differ-end : length h ≤ p → Accepted ≡ differs 0 (idsFrom 1 is ss) h
+    unfolding DifferFrom differs
+    differ-end n = sym (e ∙ at-end (differs p (idsFrom 1 (drop i is) (drop i ss))) h p n)
 
 -- ---- first_lost and first_unaccounted: r tells whether the id was recovered
 module _ (breach : ℕ → Verdict) (h : List ℕ) (x : ℕ) (xs : List ℕ) (r : Bool) (q : r ≡ has h x) where
@@ -258,4 +262,4 @@ module _ (b : Banks) where
     pub banks-more : (n ≡ 0 → ⊥) → (n ≡ 1 → ⊥) → AmbiguousAuthority n ≡ banksBreach b
     banks-more z o = simp (k, ne-eqb _ _ z, ne-eqb _ _ o)
 
-pub ruleset passed = (taken-count, repeat-next, repeat-here, repeat-end, fault-absent, in-states, in-torn, fault-attempted, fault-torn, fault-neither, faulty-no, faulty-yes, lesser-alone, lesser-first, lesser-second, least-start, least-next, least-end, first-none, first-least, differ-start, differ-skip, differ-same, differ-here, differ-done, differ-past, lost-start, lost-skip, lost-next, lost-here, lost-end, sent-next, sent-here, sent-end, banks-absent, banks-none, banks-one, banks-more)
+pub ruleset passed = (taken-count, repeat-next, repeat-here, repeat-end, fault-absent, in-states, in-torn, fault-attempted, fault-torn, fault-neither, faulty-no, faulty-yes, lesser-alone, lesser-first, lesser-second, least-start, least-next, least-end, first-none, first-least, differ-start, differ-skip, differ-same, differ-here, differ-done, differ-past, differ-end, lost-start, lost-skip, lost-next, lost-here, lost-end, sent-next, sent-here, sent-end, banks-absent, banks-none, banks-one, banks-more)

@@ -183,14 +183,14 @@ fn first_difference(ids: &[u32], states: &[u8], history: &[u32]) -> Verdict
             i += 1;
         }
     }
-    if position == history.len() {
-        return Verdict::Accepted;
+    if position < history.len() {
+        return Verdict::NotAPrefix {
+            position,
+            expected: RecordOption::NoRecord,
+            found: history[position],
+        };
     }
-    Verdict::NotAPrefix {
-        position,
-        expected: RecordOption::NoRecord,
-        found: history[position],
-    }
+    Verdict::Accepted
 }
 
 // 35: the first acknowledged id not recovered.
@@ -307,5 +307,5 @@ pub fn verify_oracle(
 pub fn verify_recovery(ids: &[u32], states: &[u8], torn: &[u8], history: &[u32]) -> Verdict
     ensures { λ r. ⌜ r ≡ verified (now (ids .entry)) (now (states .entry)) (now (torn .entry)) (now (history .entry)) [] Banks.Absent ⌝ }
 {
-    verify_oracle(ids, states, torn, history, &history[..0], Banks::Absent)
+    verify_oracle(ids, states, torn, history, &ids[..0], Banks::Absent)
 }

@@ -69,14 +69,14 @@ loop-less-2 c = search (needs, passed)
 loop-again-2 : tie.Need-loop-again-2 Inv-loop μ-loop
 loop-again-2 c = search (needs, passed)
 
+mul-t27 : tie.Need-mul-t27 Inv-loop μ-loop
+mul-t27 c = search (needs, passed)
+
+shared-slice-read-t29 : tie.Need-shared-slice-read-t29 Inv-loop μ-loop
+shared-slice-read-t29 c = search (needs, passed)
+
 returns-3 : tie.Need-returns-3 Inv-loop μ-loop
 returns-3 c = search (needs, passed)
-
-mul-t24 : tie.Need-mul-t24 Inv-loop μ-loop
-mul-t24 c = search (needs, passed)
-
-shared-slice-read-t28 : tie.Need-shared-slice-read-t28 Inv-loop μ-loop
-shared-slice-read-t28 c = search (needs, passed)
 
 returns-4 : tie.Need-returns-4 Inv-loop μ-loop
 returns-4 c = search (needs, passed)
@@ -106,7 +106,7 @@ first-difference-spec =
     add-i-2
     loop-less-2
     loop-again-2
+    mul-t27
+    shared-slice-read-t29
     returns-3
-    mul-t24
-    shared-slice-read-t28
     returns-4)
