@@ -2,8 +2,7 @@
 -- what the tests say. `asked` is all of them, for `search (needs, asked)`. Assumes nothing.
 use mathlib.Core.Path.{_≡_, refl, sym, ap, _∙_}
 use mathlib.Core.Bool.{Bool, true, false, not, _&&_}
-use mathlib.Core.Option.{Option}
-use mathlib.Core.List.{List, [], _∷_, _++_}
+use mathlib.Core.List.{List, _++_}
 use Prim.Native.Nat.{ℕ, zero, suc, _≤_, _<_}
 use native.Mathlib.Nat.{suc-ne-zero}
 use native.Mathlib.Omega.{arith}
@@ -11,8 +10,8 @@ use lib.ListN.{length, getD, drop}
 use lib.Dec.{eqb}
 use borrow.Author.Tests.{eq-eqb, ne-eqb, le-leb, lt-leb}
 use Rattle.basics.specs.Tests.{unless, firstOf}
-use Rattle.model.specs.Ledger.{Entry, isTorn, lookup, committed, acknowledged}
-use Rattle.model.specs.Columns.{stateOf, entryOf, ledgerOf, refused}
+use Rattle.model.specs.Ledger.{lookup, committed, acknowledged}
+use Rattle.model.specs.Columns.{stateOf, ledgerOf, refused}
 use Rattle.model.specs.Ids.{placeOf}
 use Rattle.model.specs.Answers.{stateFound, tornFound, stateAsked, tornAsked, lenAsked, Written, written, committedWritten, acknowledgedWritten}
 use Rattle.model.specs.Scans.{idsFrom, writtenFrom}

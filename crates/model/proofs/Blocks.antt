@@ -17,7 +17,7 @@ use lib.Seq.{take-all, take-add, take-suc, drop-drop}
 use lib.Dec.{eqb}
 use borrow.Author.Tests.{eq-eqb, ne-eqb}
 use Rattle.basics.proofs.Scans.{at-step, at-end}
-use Rattle.model.specs.Ids.{has, further, placeOf}
+use Rattle.model.specs.Ids.{has, placeOf}
 use Rattle.model.specs.declared.Place.the-variants.{NoPlace, PlaceIs}
 
 -- ---- element by element, with a flag

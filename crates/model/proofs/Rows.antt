@@ -18,7 +18,7 @@ use lib.Dec.{eqb, leb}
 use borrow.Author.Tests.{le-leb, lt-leb, eqb-true, eqb-false}
 use Rattle.basics.proofs.Overwrites.{over-more}
 use Rattle.model.specs.Ledger.{Entry, codeOf, isAttempted, isCommitted, isAcknowledged, isTorn, ids, picked, committed, acknowledged}
-use Rattle.model.specs.Columns.{stateOf, entryOf, ledgerOf}
+use Rattle.model.specs.Columns.{entryOf, ledgerOf}
 use Rattle.model.specs.Scans.{idsFrom}
 use Rattle.model.specs.declared.Durability.the-variants.{Attempted, PossiblyDurable, Acknowledged}
 

@@ -1,15 +1,18 @@
--- What holds of every list of entries: `attempted-not-torn`, and that the committed ids are a sublist of the ledger's and the
--- acknowledged ids one of the committed. Assumes nothing.
+-- What holds of every list of entries.
+--     attempted-not-torn       torn is never true of an attempted entry
+--     state-decoded            the number of a state stands for that state
+--     committed-sublist        the committed ids are a sublist of the ledger's
+--     acknowledged-sublist     the acknowledged ids are a sublist of the committed
+-- Assumes nothing.
 use mathlib.Core.Path.{_≡_, refl, sym, ap}
-use mathlib.Core.Bool.{Bool, true, false, cond, not, _&&_, true≢false}
+use mathlib.Core.Bool.{Bool, true, false, cond, not, true≢false}
 use mathlib.Core.List.{List, [], _∷_, Sublistᴰ, Sublistᴰ·slnil, Sublistᴰ·cons, Sublistᴰ·cons-cons}
-use Rattle.model.specs.Ledger.{Entry, isAttempted, isCommitted, isAcknowledged, isTorn, ids, picked, committed, acknowledged}
 use Prim.Native.Nat.{ℕ}
+use lib.Dec.{eqb}
+use Rattle.model.specs.Ledger.{codeOf, Entry, isAttempted, isCommitted, isAcknowledged, isTorn, ids, picked, committed, acknowledged}
+use Rattle.model.specs.Columns.{stateOf}
 use Rattle.model.specs.declared.Durability.{Durability}
 use Rattle.model.specs.declared.Durability.the-variants.{Attempted, PossiblyDurable, Acknowledged}
-use Rattle.model.specs.Ledger.{codeOf}
-use lib.Dec.{eqb}
-use Rattle.model.specs.Columns.{stateOf}
 
 -- "Torn is dropped where the state is attempted."
 pub attempted-not-torn : (e : Entry) → isAttempted e ≡ true → isTorn e ≡ false

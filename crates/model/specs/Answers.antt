@@ -1,6 +1,6 @@
 -- What the functions of this crate answer, from the columns that they are lent, with document 01's number and values of each
 -- answer. Assumes nothing.
-use mathlib.Core.Bool.{Bool, cond}
+use mathlib.Core.Bool.{cond}
 use mathlib.Core.Option.{Option, none, some}
 use mathlib.Core.List.{List, [], _∷_, _++_}
 use Prim.Native.Nat.{ℕ}

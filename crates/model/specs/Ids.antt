@@ -1,6 +1,6 @@
 -- What is asked of a list of ids: whether one is among them, where it first stands, and whether one stands twice. Assumes
 -- nothing.
-use mathlib.Core.Bool.{Bool, true, false, cond, _||_}
+use mathlib.Core.Bool.{Bool, false, cond, _||_}
 use mathlib.Core.List.{List, [], _∷_, List·Memᴰ}
 use Prim.Native.Nat.{ℕ, suc}
 use lib.Dec.{eqb}

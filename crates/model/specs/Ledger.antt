@@ -1,6 +1,6 @@
 -- The ledger of document 01, "model.rs", over any list of entries: its states, its tests, its lookups, and the ids that are
 -- committed, acknowledged and torn. Assumes nothing.
-use mathlib.Core.Bool.{Bool, true, false, cond, not, _&&_}
+use mathlib.Core.Bool.{Bool, false, cond, not, _&&_}
 use mathlib.Core.Option.{Option, none, some}
 use mathlib.Core.List.{List, [], _∷_}
 use Prim.Native.Nat.{ℕ}

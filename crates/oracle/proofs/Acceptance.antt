@@ -1,27 +1,29 @@
 -- What a verdict 0 means.
 --     accepts-exactly     demand 2: the verdict on any list of entries accepts exactly if the recovery is legal
 --     zero-exactly        the same by its number
+--     twice-first         a ledger that names one id twice answers 31, whatever else is wrong
 --     accepts-columns     the same of `verify_oracle`: it accepts exactly if the columns hold a ledger and the recovery is legal
 -- Assumes nothing.
 use mathlib.Core.Path.{_≡_, refl, sym, ap, _∙_}
-use mathlib.Core.Logic.{⊎-elim, _↔_}
+use mathlib.Core.Logic.{_⊎_, inl, inr, ⊎-elim, _↔_}
 use mathlib.Core.Bool.{Bool, true, false, cond, true≢false}
 use mathlib.Core.Option.{Option, none, some}
-use mathlib.Core.List.{List, [], _∷_, List·Memᴰ, List·Memᴰ·not-nil, Memᴰ·append-left}
+use mathlib.Core.List.{List, [], _∷_, _++_, List·Memᴰ, List·Memᴰ·not-nil, Memᴰ·append-left}
 use Prim.Native.Nat.{ℕ}
 use native.Mathlib.Omega.{arith}
 use lib.Dec.{eqb}
 use borrow.Author.Tests.{eq-eqb, eqb-true, not-true}
 use Rattle.model.specs.Ledger.{Entry, isAttempted, isCommitted, isTorn, ids, committed, acknowledged, torn, lookup, passes}
 use Rattle.model.specs.Columns.{ledgerOf, refused}
+use Rattle.model.specs.Ids.{has, Distinct}
 use Rattle.model.proofs.Members.{known, not-both}
 use Rattle.model.proofs.Lookups.{looked-in, looked-only}
 use Rattle.oracle.specs.Verdict.{numberOf, firstBreach, seenBefore, firstFault, differs, firstLost, banksBreach, verdict, verified}
 use Rattle.oracle.specs.Legal.{Beginning, Legal}
 use Rattle.oracle.specs.declared.Banks.{Banks}
 use Rattle.oracle.specs.declared.Verdict.{Verdict}
-use Rattle.oracle.specs.declared.Verdict.the-variants.{Accepted, LostAnAcknowledgedRecord, DispatchedWithoutADurableIntent, Refused}
-use Rattle.oracle.proofs.Breaches.{number-0, number-12, number-zero, breach-past, breach-none}
+use Rattle.oracle.specs.declared.Verdict.the-variants.{Accepted, DuplicateRecordId, LostAnAcknowledgedRecord, DispatchedWithoutADurableIntent, Refused}
+use Rattle.oracle.proofs.Breaches.{number-0, number-12, number-zero, breach-past, breach-here, breach-none}
 use Rattle.oracle.proofs.Say.{from33, from32, from35, from36}
 use Rattle.oracle.proofs.Accepting.{is-35, is-36, none-seen, seen-none, none-faulty, faulty-none, nowhere-beginning, beginning-nowhere, none-lost, lost-none, banks-pass, pass-banks}
 
@@ -31,6 +33,19 @@ not-attempted (some e) t = not-true (isAttempted e) t
 
 past : (v : Verdict) (vs : List Verdict) → v ≡ Accepted → firstBreach (v ∷ vs) ≡ firstBreach vs
 past v vs e = breach-past v vs (sym (number-0 v e))
+
+not-31 : _≡_ {A = ℕ} 31 0 → ⊥
+not-31 e = omega arith
+
+seen-or-31 : (seen xs : List ℕ) → (seenBefore seen xs ≡ Accepted) ⊎ (numberOf (seenBefore seen xs) ≡ 31)
+unfolding seenBefore numberOf
+seen-or-31 seen [] = inl refl
+seen-or-31 seen (x ∷ xs) = step (seen-or-31 (seen ++ (x ∷ [])) xs) (has seen x)
+  where
+    step : (seenBefore (seen ++ (x ∷ [])) xs ≡ Accepted) ⊎ (numberOf (seenBefore (seen ++ (x ∷ [])) xs) ≡ 31) → (b : Bool)
+        → (cond b (DuplicateRecordId x) (seenBefore (seen ++ (x ∷ [])) xs) ≡ Accepted) ⊎ (numberOf (cond b (DuplicateRecordId x) (seenBefore (seen ++ (x ∷ [])) xs)) ≡ 31)
+    step r true = inr refl
+    step r false = r
 
 module _ (l : List Entry) (h d : List ℕ) (b : Banks) where
   legal-of : verdict l h d b ≡ Accepted → Legal l h d b
@@ -77,6 +92,14 @@ module _ (l : List Entry) (h d : List ℕ) (b : Banks) where
 
   pub zero-exactly : (numberOf (verdict l h d b) ≡ 0) ↔ Legal l h d b
   zero-exactly = ((λ e. legal-of (number-zero (verdict l h d b) e)), λ g. sym (number-0 (verdict l h d b) (accepted-of g)))
+
+  pub twice-first : (Distinct (ids l) → ⊥) → numberOf (verdict l h d b) ≡ 31
+  unfolding verdict
+  twice-first n =
+      ⊎-elim
+      (λ (e : seenBefore [] (ids l) ≡ Accepted). absurd (n (none-seen [] (ids l) e .0)))
+      (λ (e : numberOf (seenBefore [] (ids l)) ≡ 31). ap numberOf (breach-here (seenBefore [] (ids l)) (from33 l h d b) (λ z. not-31 (sym e ∙ z))) ∙ e)
+      (seen-or-31 [] (ids l))
 
 -- the same of three columns
 pick-12 : (w : Bool) (v : Verdict) → cond w v Refused ≡ Accepted → (w ≡ true) × (v ≡ Accepted)

@@ -8,7 +8,6 @@ use mathlib.Core.Bool.{Bool, true, false, cond, true≢false}
 use mathlib.Core.List.{List, [], _∷_}
 use Prim.Native.Nat.{ℕ}
 use native.Mathlib.Omega.{arith}
-use lib.Dec.{eqb}
 use borrow.Author.Tests.{eq-eqb, ne-eqb, eqb-true}
 use Rattle.oracle.specs.Verdict.{numberOf, accepts, firstBreach}
 use Rattle.oracle.specs.declared.RecordOption.{RecordOption}

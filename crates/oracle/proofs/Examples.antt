@@ -25,6 +25,9 @@ pub record Table : Type 0 where
   -- a history longer than the committed list, and one that differs from it
   pub longer : Says (1 ∷ 2 ∷ []) (0 ∷ 1 ∷ []) (0 ∷ 0 ∷ []) (2 ∷ 7 ∷ []) [] Absent 32 (number 1 ∷ nothing ∷ number 7 ∷ [])
   pub other : Says (1 ∷ 2 ∷ []) (1 ∷ 1 ∷ []) (0 ∷ 0 ∷ []) (2 ∷ []) [] Absent 32 (number 0 ∷ number 1 ∷ number 2 ∷ [])
+  -- a history that repeats an id, and one with an id that no ledger has
+  pub repeats : Says (1 ∷ 2 ∷ []) (1 ∷ 1 ∷ []) (0 ∷ 0 ∷ []) (1 ∷ 1 ∷ []) [] Absent 32 (number 1 ∷ number 2 ∷ number 1 ∷ [])
+  pub unknown : Says (1 ∷ []) (1 ∷ []) (0 ∷ []) (7 ∷ []) [] Absent 32 (number 0 ∷ number 1 ∷ number 7 ∷ [])
   pub lost : Says (1 ∷ 2 ∷ []) (1 ∷ 2 ∷ []) (0 ∷ 0 ∷ []) (1 ∷ []) (2 ∷ []) (Count 0) 35 (number 2 ∷ [])
   pub sent : Says (1 ∷ 2 ∷ []) (2 ∷ 1 ∷ []) (0 ∷ 0 ∷ []) (1 ∷ []) (1 ∷ 2 ∷ []) (Count 0) 36 (number 2 ∷ [])
   pub no-bank : Says (1 ∷ []) (2 ∷ []) (0 ∷ []) (1 ∷ []) [] (Count 0) 37 []
@@ -41,6 +44,8 @@ table = record {
   dropped = record { numbered = refl; valued = refl };
   longer = record { numbered = refl; valued = refl };
   other = record { numbered = refl; valued = refl };
+  repeats = record { numbered = refl; valued = refl };
+  unknown = record { numbered = refl; valued = refl };
   lost = record { numbered = refl; valued = refl };
   sent = record { numbered = refl; valued = refl };
   no-bank = record { numbered = refl; valued = refl };

@@ -20,7 +20,6 @@ use Rattle.oracle.specs.Scans.{lesserOf, faultyId, leastFaulty, verdictA
 use Rattle.oracle.specs.declared.RecordOption.{RecordOption}
 use Rattle.oracle.specs.declared.RecordOption.the-variants.{NoRecord, Record}
 use Rattle.oracle.specs.declared.Verdict.{Verdict}
-use Rattle.oracle.specs.declared.Verdict.the-variants.{Accepted}
 
 -- ---- `lesserOf` in any grouping and order
 

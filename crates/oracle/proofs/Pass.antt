@@ -3,7 +3,7 @@
 -- callee ensures and what the test says. `passed` is all of them, for `search (needs, passed)`. Assumes nothing.
 use mathlib.Core.Path.{_≡_, refl, ap, ap₂, sym, _∙_}
 use mathlib.Core.Bool.{Bool, true, false, cond}
-use mathlib.Core.List.{List, [], _∷_, map}
+use mathlib.Core.List.{List, [], _∷_}
 use Prim.Native.Nat.{ℕ, _+_, _≤_, _<_}
 use native.Mathlib.Nat.{le-of-lt, min-eq-left, min-eq-right}
 use native.Mathlib.Omega.{arith}
@@ -19,7 +19,7 @@ use Rattle.model.specs.declared.Place.{Place}
 use Rattle.model.specs.declared.Place.the-variants.{NoPlace, PlaceIs}
 use Rattle.model.proofs.Rows.{attempted-row, torn-row, from-picked, from-left, from-end}
 use Rattle.model.proofs.Lookups.{LookedAt, looked-none, looked-at}
-use Rattle.oracle.specs.Verdict.{numberOf, accepts, firstBreach, seenBefore, faultOf, firstFault, differs, unrecovered, firstLost, banksBreach}
+use Rattle.oracle.specs.Verdict.{numberOf, firstBreach, seenBefore, faultOf, firstFault, differs, unrecovered, firstLost, banksBreach}
 use Rattle.oracle.specs.Scans.{lesserOf, faultyId, leastFaulty, verdictAt}
 use Rattle.oracle.specs.declared.RecordOption.{RecordOption}
 use Rattle.oracle.specs.declared.RecordOption.the-variants.{NoRecord, Record}
@@ -27,7 +27,6 @@ use Rattle.oracle.specs.declared.Banks.{Banks}
 use Rattle.oracle.specs.declared.Banks.the-variants.{Absent, Count}
 use Rattle.oracle.specs.declared.Verdict.{Verdict}
 use Rattle.oracle.specs.declared.Verdict.the-variants.{Accepted, DuplicateRecordId, NotAPrefix, RecoveredWhatWasNeverAttempted, RecoveredATornRecord, LostAnAcknowledgedRecord, DispatchedWithoutADurableIntent, NoAuthoritativeBank, AmbiguousAuthority}
-use Rattle.oracle.proofs.Breaches.{breach-past, breach-here}
 use Rattle.oracle.proofs.Least.{lesser-none, least-step, least-is-first}
 
 -- ---- the part of a slice that is lent as `&s[..i]` counts i

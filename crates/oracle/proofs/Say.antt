@@ -8,7 +8,7 @@ use borrow.Author.Tests.{eq-eqb, ne-eqb}
 use Rattle.model.specs.Ledger.{Entry, ids, committed, acknowledged}
 use Rattle.model.specs.Columns.{ledgerOf, refused}
 use Rattle.model.specs.Scans.{idsFrom}
-use Rattle.model.proofs.Codes.{Sound, refused-none}
+use Rattle.model.proofs.Codes.{refused-none}
 use Rattle.model.proofs.Rows.{ids-are, committed-from, acknowledged-from}
 use Rattle.oracle.specs.Verdict.{numberOf, firstBreach, seenBefore, firstFault, differs, firstLost, banksBreach, verdict, verified}
 use Rattle.oracle.specs.declared.Banks.{Banks}

@@ -2,7 +2,6 @@
 use mathlib.Core.Path.{_∙_}
 use borrow.Author.Needs.{needs}
 use Rattle.model.proofs.Asked.{as-acknowledged}
-use borrow.Author.Needs.{needs}
 use Rattle.model.proofs.acknowledged.Statement.{statement}
 use Rattle.model.proofs.acknowledged.Tie as tie
 

@@ -2,7 +2,6 @@
 use mathlib.Core.Path.{_∙_}
 use borrow.Author.Needs.{needs}
 use Rattle.model.proofs.Asked.{as-committed}
-use borrow.Author.Needs.{needs}
 use Rattle.model.proofs.committed.Statement.{statement}
 use Rattle.model.proofs.committed.Tie as tie
 

@@ -1,7 +1,6 @@
 -- `model::len` meets its contract: columns that hold a ledger have a row for each id. Assumes nothing.
 use borrow.Author.Needs.{needs}
 use Rattle.model.proofs.Asked.{asked}
-use borrow.Author.Needs.{needs}
 use Rattle.model.proofs.len.Statement.{statement}
 use Rattle.model.proofs.len.Tie as tie
 

@@ -1,7 +1,6 @@
 -- `model::refusal` meets its contract, test by test. Assumes nothing.
 use borrow.Author.Needs.{needs}
 use Rattle.model.proofs.Codes.{refusals}
-use borrow.Author.Needs.{needs}
 use Rattle.model.proofs.refusal.Statement.{statement}
 use Rattle.model.proofs.refusal.Tie as tie
 

@@ -1,7 +1,6 @@
 -- `model::state` meets its contract: an id's first entry stands where the id first stands in the first column. Assumes nothing.
 use borrow.Author.Needs.{needs}
 use Rattle.model.proofs.Asked.{asked}
-use borrow.Author.Needs.{needs}
 use Rattle.model.proofs.state.Statement.{statement}
 use Rattle.model.proofs.state.Tie as tie
 

@@ -1,7 +1,6 @@
 -- `model::torn` meets its contract: as `state`, and a mark beside the state attempted counts for nothing. Assumes nothing.
 use borrow.Author.Needs.{needs}
 use Rattle.model.proofs.Asked.{asked}
-use borrow.Author.Needs.{needs}
 use Rattle.model.proofs.torn.Statement.{statement}
 use Rattle.model.proofs.torn.Tie as tie
 

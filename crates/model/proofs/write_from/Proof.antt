@@ -1,7 +1,6 @@
 -- `model::write_from` meets its contract: it refuses before it writes, and writes as many ids as it has counted. Assumes nothing.
 use borrow.Author.Needs.{needs}
 use Rattle.model.proofs.Asked.{asked}
-use borrow.Author.Needs.{needs}
 use Rattle.model.proofs.write_from.Statement.{statement}
 use Rattle.model.proofs.write_from.Tie as tie
 

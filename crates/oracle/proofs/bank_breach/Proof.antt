@@ -1,7 +1,6 @@
 -- `oracle::bank_breach` meets its contract, case by case. Assumes nothing.
 use borrow.Author.Needs.{needs}
 use Rattle.oracle.proofs.Pass.{passed}
-use borrow.Author.Needs.{needs}
 use Rattle.oracle.proofs.bank_breach.Statement.{statement}
 use Rattle.oracle.proofs.bank_breach.Tie as tie
 

@@ -1,7 +1,6 @@
 -- `oracle::fault_of` meets its contract: an id's first entry stands where the id first stands in the first column. Assumes nothing.
 use borrow.Author.Needs.{needs}
 use Rattle.oracle.proofs.Pass.{passed}
-use borrow.Author.Needs.{needs}
 use Rattle.oracle.proofs.fault_of.Statement.{statement}
 use Rattle.oracle.proofs.fault_of.Tie as tie
 

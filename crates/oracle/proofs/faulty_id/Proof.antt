@@ -1,7 +1,6 @@
 -- `oracle::faulty_id` meets its contract, by the number of the fault. Assumes nothing.
 use borrow.Author.Needs.{needs}
 use Rattle.oracle.proofs.Pass.{passed}
-use borrow.Author.Needs.{needs}
 use Rattle.oracle.proofs.faulty_id.Statement.{statement}
 use Rattle.oracle.proofs.faulty_id.Tie as tie
 

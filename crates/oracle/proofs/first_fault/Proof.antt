@@ -1,7 +1,6 @@
 -- `oracle::first_fault` meets its contract: the breach of the least faulty id is the first by rising value. Assumes nothing.
 use borrow.Author.Needs.{needs}
 use Rattle.oracle.proofs.Pass.{passed}
-use borrow.Author.Needs.{needs}
 use Rattle.oracle.proofs.first_fault.Statement.{statement}
 use Rattle.oracle.proofs.first_fault.Tie as tie
 

@@ -6,12 +6,6 @@ use Rattle.model.specs.Ledger.{Entry}
 use Rattle.model.specs.Columns.{ledgerOf}
 use Rattle.oracle.specs.declared.Banks.{Banks}
 use Rattle.oracle.proofs.Say.{At33, At32, At35, At36, AtBanks, said-31, past-31, said-33, past-33, said-32, past-32, said-35, past-35, said-36, past-36, said-banks}
-use mathlib.Core.List.{List}
-use Prim.Native.Nat.{ℕ}
-use borrow.Author.Needs.{needs}
-use Rattle.model.specs.Ledger.{Entry}
-use Rattle.model.specs.Columns.{ledgerOf}
-use Rattle.oracle.specs.declared.Banks.{Banks}
 use Rattle.oracle.proofs.judged.Statement.{statement}
 use Rattle.oracle.proofs.judged.Tie as tie
 

@@ -1,7 +1,6 @@
 -- `oracle::lesser_of` meets its contract, case by case. Assumes nothing.
 use borrow.Author.Needs.{needs}
 use Rattle.oracle.proofs.Pass.{passed}
-use borrow.Author.Needs.{needs}
 use Rattle.oracle.proofs.lesser_of.Statement.{statement}
 use Rattle.oracle.proofs.lesser_of.Tie as tie
 

@@ -1,7 +1,6 @@
 -- `oracle::number` meets its contract, case by case. Assumes nothing.
 use borrow.Author.Needs.{needs}
 use Rattle.oracle.proofs.Breaches.{number-is}
-use borrow.Author.Needs.{needs}
 use Rattle.oracle.proofs.number.Statement.{statement}
 use Rattle.oracle.proofs.number.Tie as tie
 

@@ -1,7 +1,6 @@
 -- `oracle::verify_oracle` meets its contract: it refuses what `refusal` refuses, and judges the rest. Assumes nothing.
 use borrow.Author.Needs.{needs}
 use Rattle.oracle.proofs.Say.{said}
-use borrow.Author.Needs.{needs}
 use Rattle.oracle.proofs.verify_oracle.Statement.{statement}
 use Rattle.oracle.proofs.verify_oracle.Tie as tie
 
