@@ -1,0 +1,10 @@
+-- Laws of device's definitions, each under what it is about.
+pub mod Ands
+pub mod Pairs
+pub mod Cells
+pub mod Spans
+pub mod Applied
+pub mod Programming
+pub mod Erasing
+pub mod Bits
+pub mod Postimages
