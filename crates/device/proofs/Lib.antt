@@ -8,3 +8,6 @@ pub mod Programming
 pub mod Erasing
 pub mod Bits
 pub mod Postimages
+pub mod Numbers
+pub mod Accepted
+pub mod Replies

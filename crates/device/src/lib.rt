@@ -8,14 +8,15 @@ use storage::GeometryError;
 use storage::Validated;
 ghost use mathlib.Core.Path.{_≡_};
 ghost use mathlib.Core.Bool.{not};
-ghost use mathlib.Core.List.{List};
+ghost use mathlib.Core.List.{List, [], _∷_};
 ghost use Prim.Native.Nat.{ℕ, _+_, _≤_};
 ghost use lib.ListN.{length, replicate};
 ghost use Rattle.basics.specs.Tests.{firstOf};
-ghost use Rattle.storage.specs.Answers.{numberOfValidated};
+ghost use Rattle.storage.specs.Geometry.{geometryTest};
+ghost use Rattle.storage.specs.Answers.{numberOfValidated, answered};
 ghost use Rattle.device.specs.Media.{ff, newMedia, anded, anyPair, unequal, Applied, applied, programmed, erased, setsABit, wouldSetABit, postimage, differsFrom, eraseWouldChange};
 ghost use Rattle.device.specs.Answers.{numberOfFault, numberOfReply, numberOfPostimage, replied};
-ghost use Rattle.device.specs.Calls.{readRefusal, writeRefusal, eraseRefusal, barrierRefusal, Called, readCall, programCall, eraseCall, Copied, copied};
+ghost use Rattle.device.specs.Calls.{mediaTest, readRefusal, writeRefusal, eraseRefusal, barrierRefusal, Called, readCall, programCall, eraseCall, Copied, copied};
 
 // The byte an erased cell reads as.
 pub const ERASED: u8 = 0xFF;
@@ -23,6 +24,9 @@ pub const ERASED: u8 = 0xFF;
 // How many cells a question looks at before it may stop. A loop without a way out is compiled to vectors, so each block is
 // looked at whole, and the search ends between blocks.
 const BLOCK: usize = 128;
+
+// The longest buffer whose length is a u32.
+const LONGEST: usize = 0xFFFF_FFFF;
 
 // What a program does that asks for a bit which the media have already cleared.
 pub enum OneWayBits {
@@ -289,4 +293,164 @@ pub fn erase_would_change(media: &[u8], offset: u32, len: u32) -> bool
         return false;
     }
     !slice_is_erased(&media[start..asked_end])
+}
+
+// Copies cells into a buffer of their length.
+fn copy_cells(cells: &[u8], dst: &mut [u8])
+    requires { ⌜ length (now dst) ≡ length (now cells) ⌝ }
+    ensures { λ _. ⌜ now (dst .exit) ≡ now (cells .entry) ⌝ }
+{
+    let mut i = 0;
+    while i < cells.len() {
+        dst[i] = cells[i];
+        i += 1;
+    }
+}
+
+// What refuses a call: media that are not of capacity length, and then what the geometry's check of it answered.
+fn checked_media(geometry: Geometry, media: usize, checked: Validated) -> Reply
+    ensures { λ r. ⌜ r ≡ replied (firstOf (mediaTest geometry media ∷ numberOfValidated checked ∷ [])) ⌝ }
+{
+    if media != geometry.capacity as usize {
+        return Reply::Refused(FaultError::MediaLength);
+    }
+    match checked {
+        Validated::Legal => Reply::Accepted,
+        Validated::Illegal(error) => Reply::Refused(FaultError::Geometry(error)),
+    }
+}
+
+// What the geometry answers to a buffer longer than a u32 can count: no span of it is within a capacity.
+fn longer_than_u32(geometry: Geometry) -> Validated
+    ensures { λ r. ⌜ r ≡ answered (firstOf (geometryTest geometry ∷ 6 ∷ [])) ⌝ }
+{
+    let checked = geometry.check();
+    match checked {
+        Validated::Legal => Validated::Illegal(GeometryError::OutOfBounds),
+        Validated::Illegal(error) => Validated::Illegal(error),
+    }
+}
+
+// What refuses a read into a buffer of `len` bytes, or nothing.
+fn check_read(geometry: Geometry, media: usize, offset: u32, len: usize) -> Reply
+    ensures { λ r. ⌜ r ≡ replied (readRefusal geometry media offset len) ⌝ }
+{
+    if len > LONGEST {
+        return checked_media(geometry, media, longer_than_u32(geometry));
+    }
+    checked_media(geometry, media, geometry.validate_read(offset, len as u32))
+}
+
+// What refuses a program of `len` bytes before the media are looked at, or nothing.
+fn check_program(geometry: Geometry, media: usize, offset: u32, len: usize) -> Reply
+    ensures { λ r. ⌜ r ≡ replied (writeRefusal geometry media offset len) ⌝ }
+{
+    if len > LONGEST {
+        return checked_media(geometry, media, longer_than_u32(geometry));
+    }
+    checked_media(
+        geometry,
+        media,
+        geometry.validate_program(offset, len as u32),
+    )
+}
+
+// Reads `dst.len()` cells at `offset` into `dst`. Refused, with `dst` as it was: 7 for media that are not of capacity length,
+// 1 to 3 for the geometry, 6 for a buffer longer than a u32 can count, 4 to 6 for the span.
+pub fn read(geometry: Geometry, media: &[u8], offset: u32, dst: &mut [u8]) -> Reply
+    ensures { λ r. ⌜ _≡_ {A = Called} (record { reply = r; content = now (dst .exit) }) (readCall geometry (now (media .entry)) offset (now (dst .entry))) ⌝ }
+{
+    let checked = check_read(geometry, media.len(), offset, dst.len());
+    if let Reply::Refused(fault) = checked {
+        return Reply::Refused(fault);
+    }
+    let start = offset as usize;
+    let read_end = start + dst.len();
+    copy_cells(&media[start..read_end], dst);
+    Reply::Accepted
+}
+
+// Programs `src` at `offset`: each cell becomes cell AND byte. Refused, with the media as they were: as `read`, against the
+// program unit, and then, under OneWayBits::Rejected, 20 where a byte has a 1 where its cell has 0.
+pub fn program(
+    geometry: Geometry,
+    rule: OneWayBits,
+    media: &mut [u8],
+    offset: u32,
+    src: &[u8],
+) -> Reply
+    ensures { λ r. ⌜ _≡_ {A = Called} (record { reply = r; content = now (media .exit) }) (programCall geometry rule (now (media .entry)) offset (now (src .entry))) ⌝ }
+{
+    let checked = check_program(geometry, media.len(), offset, src.len());
+    if let Reply::Refused(fault) = checked {
+        return Reply::Refused(fault);
+    }
+    if let OneWayBits::Rejected = rule {
+        if would_set_a_bit(media, offset, src) {
+            return Reply::Refused(FaultError::BitSetWithoutErase);
+        }
+    }
+    apply_program(media, offset, src);
+    Reply::Accepted
+}
+
+// Erases `offset..offset + len`: each cell becomes ERASED. Refused, with the media as they were: 7, 1 to 3, then 4 to 6
+// against the erase unit.
+pub fn erase(geometry: Geometry, media: &mut [u8], offset: u32, len: u32) -> Reply
+    ensures { λ r. ⌜ _≡_ {A = Called} (record { reply = r; content = now (media .exit) }) (eraseCall geometry (now (media .entry)) offset len) ⌝ }
+{
+    let checked = checked_media(geometry, media.len(), geometry.validate_erase(offset, len));
+    if let Reply::Refused(fault) = checked {
+        return Reply::Refused(fault);
+    }
+    apply_erase(media, offset, len);
+    Reply::Accepted
+}
+
+// Succeeds and changes nothing: the media are the durable state. Refused with 7 for media that are not of capacity length and
+// 1 to 3 for the geometry.
+pub fn barrier(geometry: Geometry, media: &[u8]) -> Reply
+    ensures { λ r. ⌜ r ≡ replied (barrierRefusal geometry (length (now (media .entry)))) ⌝ }
+{
+    checked_media(geometry, media.len(), geometry.check())
+}
+
+impl FaultError {
+    // Document 01's number of the fault.
+    pub fn number(self) -> u32
+        ensures { λ r. ⌜ r ≡ numberOfFault self ⌝ }
+    {
+        match self {
+            FaultError::Geometry(error) => error.number(),
+            FaultError::MediaLength => 7,
+            FaultError::BitSetWithoutErase => 20,
+            FaultError::PowerLoss => 21,
+            FaultError::WatchdogReset => 22,
+            FaultError::InjectedFailure => 23,
+        }
+    }
+}
+
+impl Reply {
+    // 0 where the call was accepted, else the fault's number.
+    pub fn refusal(self) -> u32
+        ensures { λ r. ⌜ r ≡ numberOfReply self ⌝ }
+    {
+        match self {
+            Reply::Accepted => 0,
+            Reply::Refused(fault) => fault.number(),
+        }
+    }
+}
+
+impl Postimage {
+    // 0 where the cells were written, else 13.
+    pub fn refusal(self) -> u32
+        ensures { λ r. ⌜ r ≡ numberOfPostimage self ⌝ }
+    {
+        match self {
+            Postimage::Cells(_) => 0,
+            Postimage::BufferTooShort => 13,
+        }
+    }
 }
