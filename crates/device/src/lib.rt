@@ -68,10 +68,10 @@ pub enum Postimage {
 pub fn fill_erased(media: &mut [u8])
     ensures { λ _. ⌜ now (media .exit) ≡ newMedia (length (now (media .entry))) ⌝ }
 {
-    let mut i = 0;
-    while i < media.len() {
-        media[i] = ERASED;
-        i += 1;
+    let mut filled = 0;
+    while filled < media.len() {
+        media[filled] = ERASED;
+        filled += 1;
     }
 }
 
@@ -300,10 +300,10 @@ fn copy_cells(cells: &[u8], dst: &mut [u8])
     requires { ⌜ length (now dst) ≡ length (now cells) ⌝ }
     ensures { λ _. ⌜ now (dst .exit) ≡ now (cells .entry) ⌝ }
 {
-    let mut i = 0;
-    while i < cells.len() {
-        dst[i] = cells[i];
-        i += 1;
+    let mut copied = 0;
+    while copied < cells.len() {
+        dst[copied] = cells[copied];
+        copied += 1;
     }
 }
 
@@ -331,27 +331,31 @@ fn longer_than_u32(geometry: Geometry) -> Validated
     }
 }
 
-// What refuses a read into a buffer of `len` bytes, or nothing.
-fn check_read(geometry: Geometry, media: usize, offset: u32, len: usize) -> Reply
-    ensures { λ r. ⌜ r ≡ replied (readRefusal geometry media offset len) ⌝ }
+// What refuses a read into a buffer of `read_len` bytes, or nothing.
+fn check_read(geometry: Geometry, media: usize, offset: u32, read_len: usize) -> Reply
+    ensures { λ r. ⌜ r ≡ replied (readRefusal geometry media offset «read_len») ⌝ }
 {
-    if len > LONGEST {
-        return checked_media(geometry, media, longer_than_u32(geometry));
-    }
-    checked_media(geometry, media, geometry.validate_read(offset, len as u32))
-}
-
-// What refuses a program of `len` bytes before the media are looked at, or nothing.
-fn check_program(geometry: Geometry, media: usize, offset: u32, len: usize) -> Reply
-    ensures { λ r. ⌜ r ≡ replied (writeRefusal geometry media offset len) ⌝ }
-{
-    if len > LONGEST {
+    if read_len > LONGEST {
         return checked_media(geometry, media, longer_than_u32(geometry));
     }
     checked_media(
         geometry,
         media,
-        geometry.validate_program(offset, len as u32),
+        geometry.validate_read(offset, read_len as u32),
+    )
+}
+
+// What refuses a program of `program_len` bytes before the media are looked at, or nothing.
+fn check_program(geometry: Geometry, media: usize, offset: u32, program_len: usize) -> Reply
+    ensures { λ r. ⌜ r ≡ replied (writeRefusal geometry media offset «program_len») ⌝ }
+{
+    if program_len > LONGEST {
+        return checked_media(geometry, media, longer_than_u32(geometry));
+    }
+    checked_media(
+        geometry,
+        media,
+        geometry.validate_program(offset, program_len as u32),
     )
 }
 
@@ -361,8 +365,8 @@ pub fn read(geometry: Geometry, media: &[u8], offset: u32, dst: &mut [u8]) -> Re
     ensures { λ r. ⌜ _≡_ {A = Called} (record { reply = r; content = now (dst .exit) }) (readCall geometry (now (media .entry)) offset (now (dst .entry))) ⌝ }
 {
     let checked = check_read(geometry, media.len(), offset, dst.len());
-    if let Reply::Refused(fault) = checked {
-        return Reply::Refused(fault);
+    if let Reply::Refused(read_fault) = checked {
+        return Reply::Refused(read_fault);
     }
     let start = offset as usize;
     let read_end = start + dst.len();
@@ -382,8 +386,8 @@ pub fn program(
     ensures { λ r. ⌜ _≡_ {A = Called} (record { reply = r; content = now (media .exit) }) (programCall geometry rule (now (media .entry)) offset (now (src .entry))) ⌝ }
 {
     let checked = check_program(geometry, media.len(), offset, src.len());
-    if let Reply::Refused(fault) = checked {
-        return Reply::Refused(fault);
+    if let Reply::Refused(program_fault) = checked {
+        return Reply::Refused(program_fault);
     }
     if let OneWayBits::Rejected = rule {
         if would_set_a_bit(media, offset, src) {
@@ -400,8 +404,8 @@ pub fn erase(geometry: Geometry, media: &mut [u8], offset: u32, len: u32) -> Rep
     ensures { λ r. ⌜ _≡_ {A = Called} (record { reply = r; content = now (media .exit) }) (eraseCall geometry (now (media .entry)) offset len) ⌝ }
 {
     let checked = checked_media(geometry, media.len(), geometry.validate_erase(offset, len));
-    if let Reply::Refused(fault) = checked {
-        return Reply::Refused(fault);
+    if let Reply::Refused(erase_fault) = checked {
+        return Reply::Refused(erase_fault);
     }
     apply_erase(media, offset, len);
     Reply::Accepted

@@ -20,7 +20,7 @@ unfolding writeRefusal
 returns c =
     let start = c .before .before .before .args in
     media-checked (start .geometry) (start .media) _ _ _ (long-small (start .geometry)) (c .before .longer-than-u32 .ensures) (c .checked-media .ensures)
-    ∙ ap replied (too-long (start .geometry) (start .geometry .«program_size») (start .media) (start .offset) (start .len) (c .before .before .if1 .taken))
+    ∙ ap replied (too-long (start .geometry) (start .geometry .«program_size») (start .media) (start .offset) (start .program-len) (c .before .before .if1 .taken))
 
 cast-validate-program : tie.Need-cast-validate-program
 cast-validate-program c = search needs
@@ -35,8 +35,8 @@ returns-2 : tie.Need-returns-2
 unfolding writeRefusal
 returns-2 c =
     let start = c .before .before .before .args in
-    media-checked (start .geometry) (start .media) _ _ _ (small-span (start .geometry) (start .geometry .«program_size») (start .offset) (start .len)) (c .before .validate-program .ensures) (c .checked-media2 .ensures)
-    ∙ ap replied (span-passed (start .geometry) (start .geometry .«program_size») (start .media) (start .offset) (start .len) (omega arith))
+    media-checked (start .geometry) (start .media) _ _ _ (small-span (start .geometry) (start .geometry .«program_size») (start .offset) (start .program-len)) (c .before .validate-program .ensures) (c .checked-media2 .ensures)
+    ∙ ap replied (span-passed (start .geometry) (start .geometry .«program_size») (start .media) (start .offset) (start .program-len) (omega arith))
 
 pub check-program-spec : {M : Type 1} → statement M
 check-program-spec =

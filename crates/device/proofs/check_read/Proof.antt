@@ -20,7 +20,7 @@ unfolding readRefusal
 returns c =
     let start = c .before .before .before .args in
     media-checked (start .geometry) (start .media) _ _ _ (long-small (start .geometry)) (c .before .longer-than-u32 .ensures) (c .checked-media .ensures)
-    ∙ ap replied (too-long (start .geometry) (start .geometry .«read_size») (start .media) (start .offset) (start .len) (c .before .before .if1 .taken))
+    ∙ ap replied (too-long (start .geometry) (start .geometry .«read_size») (start .media) (start .offset) (start .read-len) (c .before .before .if1 .taken))
 
 cast-validate-read : tie.Need-cast-validate-read
 cast-validate-read c = search needs
@@ -35,8 +35,8 @@ returns-2 : tie.Need-returns-2
 unfolding readRefusal
 returns-2 c =
     let start = c .before .before .before .args in
-    media-checked (start .geometry) (start .media) _ _ _ (small-span (start .geometry) (start .geometry .«read_size») (start .offset) (start .len)) (c .before .validate-read .ensures) (c .checked-media2 .ensures)
-    ∙ ap replied (span-passed (start .geometry) (start .geometry .«read_size») (start .media) (start .offset) (start .len) (omega arith))
+    media-checked (start .geometry) (start .media) _ _ _ (small-span (start .geometry) (start .geometry .«read_size») (start .offset) (start .read-len)) (c .before .validate-read .ensures) (c .checked-media2 .ensures)
+    ∙ ap replied (span-passed (start .geometry) (start .geometry .«read_size») (start .media) (start .offset) (start .read-len) (omega arith))
 
 pub check-read-spec : {M : Type 1} → statement M
 check-read-spec =

@@ -10,10 +10,10 @@ use Rattle.device.proofs.copy_cells.Statement.{statement}
 use Rattle.device.proofs.copy_cells.Tie as tie
 
 abbrev Inv-loop : tie.InvT-loop
-Inv-loop cells dst₀ i₀ dst i = (i ≤ length cells) × (length dst ≡ length dst₀) × (dst ≡ take i cells ++ drop i dst₀)
+Inv-loop cells dst₀ copied₀ dst copied = (copied ≤ length cells) × (length dst ≡ length dst₀) × (dst ≡ take copied cells ++ drop copied dst₀)
 
 abbrev μ-loop : tie.MeasureT-loop
-μ-loop cells dst₀ i₀ dst i = length cells - i
+μ-loop cells dst₀ copied₀ dst copied = length cells - copied
 
 loop-holds : tie.Need-loop-holds Inv-loop μ-loop
 loop-holds c = search needs
@@ -24,8 +24,8 @@ shared-slice-read-dst c = search needs
 slice-write-dst : tie.Need-slice-write-dst Inv-loop μ-loop
 slice-write-dst c = search needs
 
-add-i : tie.Need-add-i Inv-loop μ-loop
-add-i c = search needs
+add-copied : tie.Need-add-copied Inv-loop μ-loop
+add-copied c = search needs
 
 loop-less : tie.Need-loop-less Inv-loop μ-loop
 loop-less c = search needs
@@ -35,7 +35,7 @@ loop-again c =
     let at-loop = c .before .before in
     let new = at-loop .before .args .cells .now in
     let old = at-loop .before .args .dst .now in
-    let i = at-loop .loop .i in (
+    let i = at-loop .loop .copied in (
       omega arith,
       simp length-set (at-loop .loop .inv .1),
       over-more new old (at-loop .loop .dst) i (getD new i 0) 0 (omega arith) (omega arith) (at-loop .loop .inv .2) refl,
@@ -47,7 +47,7 @@ same-length c = search needs
 returns : tie.Need-returns Inv-loop μ-loop
 returns c =
     let at-loop = c .before in
-    at-loop .loop .inv .2 ∙ over-all (at-loop .before .args .cells .now) (at-loop .before .args .dst .now) (at-loop .loop .i) (omega arith) (omega arith)
+    at-loop .loop .inv .2 ∙ over-all (at-loop .before .args .cells .now) (at-loop .before .args .dst .now) (at-loop .loop .copied) (omega arith) (omega arith)
 
 pub copy-cells-spec : {M : Type 1} → statement M
 copy-cells-spec =
@@ -58,7 +58,7 @@ copy-cells-spec =
     loop-holds
     shared-slice-read-dst
     slice-write-dst
-    add-i
+    add-copied
     loop-less
     loop-again
     same-length

@@ -11,10 +11,10 @@ use Rattle.device.proofs.fill_erased.Statement.{statement}
 use Rattle.device.proofs.fill_erased.Tie as tie
 
 abbrev Inv-loop : tie.InvT-loop
-Inv-loop media₀ i₀ media i = (i ≤ length media₀) × ((media ≡ take i (replicate (length media₀) ff) ++ drop i media₀) × (length media ≡ length media₀))
+Inv-loop media₀ filled₀ media filled = (filled ≤ length media₀) × ((media ≡ take filled (replicate (length media₀) ff) ++ drop filled media₀) × (length media ≡ length media₀))
 
 abbrev μ-loop : tie.MeasureT-loop
-μ-loop media₀ i₀ media i = length media₀ - i
+μ-loop media₀ filled₀ media filled = length media₀ - filled
 
 loop-holds : tie.Need-loop-holds Inv-loop μ-loop
 loop-holds c = search needs
@@ -22,8 +22,8 @@ loop-holds c = search needs
 slice-write-media : tie.Need-slice-write-media Inv-loop μ-loop
 slice-write-media c = omega arith
 
-add-i : tie.Need-add-i Inv-loop μ-loop
-add-i c = omega arith
+add-filled : tie.Need-add-filled Inv-loop μ-loop
+add-filled c = omega arith
 
 loop-less : tie.Need-loop-less Inv-loop μ-loop
 loop-less c = omega arith
@@ -31,7 +31,7 @@ loop-less c = omega arith
 loop-again : tie.Need-loop-again Inv-loop μ-loop
 loop-again c =
     let old = c .before .before .args .media .now in
-    let i = c .before .loop .i in
+    let i = c .before .loop .filled in
     let h : i < length old = omega arith in (
       search needs,
       (
@@ -46,7 +46,7 @@ same-length c = search needs
 returns : tie.Need-returns Inv-loop μ-loop
 returns c =
     let old = c .before .before .args .media .now in
-    let i = c .before .loop .i in
+    let i = c .before .loop .filled in
     c .before .loop .inv .1 .0 ∙ over-all (replicate (length old) ff) old i (simp length-replicate (omega arith)) (omega arith)
 
 pub fill-erased-spec : {M : Type 1} → statement M
@@ -57,7 +57,7 @@ fill-erased-spec =
     μ-loop
     loop-holds
     slice-write-media
-    add-i
+    add-filled
     loop-less
     loop-again
     same-length
