@@ -3,14 +3,13 @@
 --     span-known, span-fits    of a span alone
 --     read-known, program-known, erase-known    of a call
 -- Assumes nothing.
-use mathlib.Core.Path.{_≡_, refl, sym, ap, _∙_}
+use mathlib.Core.Path.{_≡_}
 use mathlib.Core.Bool.{Bool, true, false, _&&_}
 use mathlib.Core.List.{List, [], _∷_}
-use Prim.Native.Nat.{ℕ, _+_, _%_, _^_, _≤_, _<_}
-use native.Mathlib.Omega.{arith}
+use Prim.Native.Nat.{ℕ, _+_, _%_, _^_, _≤_}
 use lib.ListN.{length}
 use lib.Dec.{eqb, leb, ltb}
-use borrow.Author.Tests.{eqb-true, leb-true, ltb-true}
+use borrow.Author.Tests.{eqb-true, leb-true}
 use Rattle.basics.specs.Tests.{unless, refuseIf, firstOf}
 use Rattle.basics.proofs.Tests.{unless-zero, refuse-zero, firstOf-zero}
 use Rattle.storage.specs.declared.Geometry.{Geometry}

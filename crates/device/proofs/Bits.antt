@@ -1,15 +1,15 @@
 -- "a byte with a 1 where its cell has 0", and what rule `Rejected` keeps from happening.
 --     sets-bits      `setsABit` means what the sentence says, bit by bit
---     sets-place     where it holds there is such a place
+--     programmed-bits    programming sets no bit, wherever it lands
 --     rejected-part  where the rule lets a call pass, the part holds the bytes themselves
 -- Assumes nothing.
 use mathlib.Core.Path.{_≡_, refl, sym, ap, ap₂, _∙_}
 use mathlib.Core.Logic.{_↔_}
-use mathlib.Core.Bool.{Bool, true, false, not}
+use mathlib.Core.Bool.{false, not}
 use mathlib.Core.List.{List, [], _∷_, zipWith}
 use Prim.Native.Nat.{ℕ, _+_, _≤_, _<_}
 use native.Mathlib.Nat.{suc-ne-zero, suc-inj}
-use lib.ListN.{length}
+use lib.ListN.{length, getD}
 use lib.Dec.{eqb}
 use lib.Bits.{bitAnd, and-comm}
 use borrow.Author.Tests.{le-leb, eqb-true, eq-eqb, not-false}
@@ -17,8 +17,9 @@ use Rattle.basics.specs.Parts.{part}
 use Rattle.basics.proofs.Parts.{length-part}
 use Rattle.device.specs.Media.{anded, anyPair, programmed, setsABit, wouldSetABit}
 use Rattle.device.proofs.Ands.{bit, and-bits}
+use Rattle.device.proofs.Cells.{getD-anded}
 use Rattle.device.proofs.Pairs.{false-left, false-right}
-use Rattle.device.proofs.Programming.{programmed-part}
+use Rattle.device.proofs.Programming.{length-programmed, programmed-part, programmed-clears}
 
 -- false exactly if the byte has at no place a 1 where its cell has 0
 pub sets-bits : (cell byte : ℕ) → (setsABit cell byte ≡ false) ↔ ((k : ℕ) → bit k byte ≤ bit k cell)
@@ -44,3 +45,12 @@ unfolding wouldSetABit
 rejected-part media offset src h e =
     programmed-part media offset src h
     ∙ none-sets (part media offset (length src)) src (length-part media offset (length src) h) (rw (le-leb _ _ h) at e)
+
+-- "programming can only clear bits": at every place of every cell
+pub programmed-bits : (media : List ℕ) (offset : ℕ) (src : List ℕ) (i k : ℕ) → i < length media
+    → bit k (getD (programmed media offset src) i 0) ≤ bit k (getD media i 0)
+programmed-bits media offset src i k h =
+    let after = programmed media offset src in
+    let l : i < length after = rw (length-programmed media offset src) h in
+    let e : bitAnd (getD after i 0) (getD media i 0) ≡ getD after i 0 = sym (getD-anded after media i l h) ∙ ap (λ (m : List ℕ). getD m i 0) (programmed-clears media offset src) in
+    and-bits (getD after i 0) (getD media i 0) .0 e k

@@ -11,20 +11,20 @@
 --     erased-whole          erasing all of them leaves a new device's media
 --     programmed-erased     bytes over erased cells are stored as they are
 -- Assumes nothing.
-use mathlib.Core.Path.{_≡_, refl, sym, ap, ap₂, _∙_}
+use mathlib.Core.Path.{_≡_, sym, ap, _∙_}
 use mathlib.Core.Logic.{_⊎_, ⊎-elim, _↔_}
 use mathlib.Core.Bool.{false}
-use mathlib.Core.List.{List, [], _∷_, _++_, append-nil}
-use Prim.Native.Nat.{ℕ, zero, suc, _+_, _-_, _≤_, _<_}
-use native.Mathlib.Nat.{add-zero, zero-add, not-suc-le-zero, le-of-suc-le-suc}
+use mathlib.Core.List.{List, _++_, append-nil}
+use Prim.Native.Nat.{ℕ, _+_, _-_, _≤_, _<_}
+use native.Mathlib.Nat.{add-zero, zero-add}
 use native.Mathlib.Omega.{arith}
-use lib.ListN.{length, take, drop, getD, replicate, length-replicate, length-append, take-append-drop, replicate-append-replicate, drop-of-length-le}
+use lib.ListN.{length, getD, replicate, length-replicate, take-append-drop, replicate-append-replicate, drop-of-length-le}
 use lib.Seq.{take-at, drop-at}
 use borrow.Author.Tests.{le-leb, lt-leb}
-use Rattle.basics.specs.Parts.{part, overlaid, onPart}
+use Rattle.basics.specs.Parts.{part, overlaid}
 use Rattle.basics.proofs.Tests.{le-or-gt}
-use Rattle.basics.proofs.Parts.{length-part, on-in, on-out, length-on, before-part, after-part, at-part, on-twice}
-use Rattle.device.specs.Media.{ff, newMedia, anded, programmed, erased, anyChanged, anyPair, unequal, eraseWouldChange}
+use Rattle.basics.proofs.Parts.{on-in, on-out, length-on, before-part, after-part, at-part, on-twice}
+use Rattle.device.specs.Media.{ff, newMedia, anded, programmed, erased, anyChanged, eraseWouldChange}
 use Rattle.device.proofs.Pairs.{any-same}
 use Rattle.device.proofs.Cells.{anded-erased}
 use Rattle.device.proofs.Spans.{on-split, part-part}

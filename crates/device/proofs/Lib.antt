@@ -7,7 +7,9 @@ pub mod Applied
 pub mod Programming
 pub mod Erasing
 pub mod Bits
+pub mod Questions
 pub mod Postimages
 pub mod Numbers
 pub mod Accepted
 pub mod Replies
+pub mod Examples

@@ -4,27 +4,24 @@
 --     fault-numbered, number-fault    the fault with a number, and the number of a fault
 --     reply-numbered     the number of the reply with a number
 -- Assumes nothing.
-use mathlib.Core.Path.{_≡_, refl, sym, ap, _∙_}
+use mathlib.Core.Path.{_≡_, refl}
 use mathlib.Core.Logic.{⊎-elim}
-use mathlib.Core.Bool.{Bool, true, false, cond}
+use mathlib.Core.Bool.{Bool, true, false}
 use mathlib.Core.List.{List, [], _∷_}
-use Prim.Native.Nat.{ℕ, zero, suc, _+_, _≤_, _<_}
+use Prim.Native.Nat.{ℕ, zero, suc, _≤_, _<_}
 use native.Mathlib.Nat.{suc-ne-zero}
 use native.Mathlib.Omega.{arith}
-use lib.Dec.{eqb}
-use borrow.Author.Tests.{eq-eqb, ne-eqb}
+use borrow.Author.Tests.{ne-eqb}
 use Rattle.basics.specs.Tests.{unless, refuseIf, firstOf}
 use Rattle.basics.proofs.Tests.{firstOf-pass, firstOf-stop, le-or-gt}
 use Rattle.storage.specs.declared.Geometry.{Geometry}
-use Rattle.storage.specs.declared.GeometryError.{GeometryError}
 use Rattle.storage.specs.declared.GeometryError.the-variants.{ZeroUnit, UnitIsNotAPowerOfTwo, UnitsDoNotNest, MisalignedOffset, MisalignedLength, OutOfBounds}
 use Rattle.storage.specs.Geometry.{geometryTest}
 use Rattle.storage.specs.Span.{spanTest}
-use Rattle.storage.specs.Answers.{numberOf, errorOf, numberOfValidated, answered}
+use Rattle.storage.specs.Answers.{errorOf, numberOfValidated, answered}
 use Rattle.storage.proofs.Numbers.{numbered}
 use Rattle.device.specs.declared.FaultError.{FaultError}
 use Rattle.device.specs.declared.FaultError.the-variants as fault
-use Rattle.device.specs.declared.Reply.the-variants.{Accepted, Refused}
 use Rattle.device.specs.Answers.{numberOfFault, numberOfReply, faultOf, replied}
 
 -- ---- how large a number may be

@@ -7,7 +7,7 @@
 --     pair-rest, fill-rest         the last block
 -- Assumes nothing.
 use mathlib.Core.Path.{_≡_, refl, sym, ap, ap₂, _∙_}
-use mathlib.Core.Bool.{Bool, true, false, not, _||_, or-false, or-true, or-assoc}
+use mathlib.Core.Bool.{Bool, true, false, _||_, or-false, or-true, or-assoc}
 use mathlib.Core.List.{List, [], _∷_, _++_}
 use Prim.Native.Nat.{ℕ, zero, suc, _+_, _-_, _≤_, _<_}
 use native.Mathlib.Nat.{not-suc-le-zero, le-of-suc-le-suc, suc-ne-zero, suc-inj}
@@ -106,7 +106,7 @@ passed whole block rest e t = rw t at e
 
 -- two lists of one length have blocks of one length
 pub block-lengths : (xs ys : List ℕ) (i n m : ℕ) → length xs ≡ length ys → n ≡ m → length (take n (drop i xs)) ≡ length (take m (drop i ys))
-block-lengths xs ys i n m e f = rw (length-take, length-take, length-drop, length-drop, e, f)
+block-lengths xs ys i n m e f = simp (length-take, length-drop, e, f)
 
 -- the block of k from i on, as the code lends it, and what is left behind it
 pub pair-block : (f : ℕ → ℕ → Bool) (xs ys : List ℕ) (i k : ℕ) (b : Bool) → b ≡ anyPair f (take (i + k - i) (drop i xs)) (take (i + k - i) (drop i ys))

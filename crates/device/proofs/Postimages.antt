@@ -3,8 +3,8 @@
 --     post-short      the buffer is shorter than the cells
 --     post-written    the cells stand at the buffer's start
 -- Assumes nothing.
-use mathlib.Core.Path.{_≡_, refl, sym, ap, _∙_}
-use mathlib.Core.List.{List, [], _++_}
+use mathlib.Core.Path.{_≡_, sym, ap, _∙_}
+use mathlib.Core.List.{List, _++_}
 use Prim.Native.Nat.{ℕ, _+_, _-_, _≤_, _<_}
 use native.Mathlib.Nat.{zero-add}
 use native.Mathlib.Omega.{arith}
@@ -12,7 +12,6 @@ use lib.ListN.{length, take, drop}
 use borrow.Author.Tests.{le-leb, lt-leb}
 use Rattle.basics.specs.Parts.{part, overlaid}
 use Rattle.basics.proofs.Parts.{length-part, part-lent}
-use Rattle.device.specs.declared.Postimage.{Postimage}
 use Rattle.device.specs.declared.Postimage.the-variants.{Cells, BufferTooShort}
 use Rattle.device.specs.Media.{anded, postimage}
 use Rattle.device.specs.Calls.{Copied, copied}

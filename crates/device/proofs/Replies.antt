@@ -8,13 +8,13 @@
 --     read-number, program-number, erase-number    a reply's number is the one that its call's tests give
 -- Assumes nothing.
 use mathlib.Core.Path.{_≡_, refl, sym, ap, _∙_}
-use mathlib.Core.Bool.{Bool, true, false, _&&_, cond}
+use mathlib.Core.Bool.{Bool, true, false, _&&_}
 use mathlib.Core.List.{List, [], _∷_}
 use Prim.Native.Nat.{ℕ, zero, suc, _+_, _-_, _^_, _≤_, _<_}
 use native.Mathlib.Nat.{suc-ne-zero}
 use native.Mathlib.Omega.{arith}
 use lib.ListN.{length, take, drop}
-use lib.Dec.{eqb, ltb}
+use lib.Dec.{eqb}
 use borrow.Author.Tests.{eq-eqb, ne-eqb, lt-ltb, le-ltb}
 use Rattle.basics.specs.Tests.{unless, refuseIf, firstOf}
 use Rattle.basics.specs.Parts.{part}
@@ -27,7 +27,7 @@ use Rattle.storage.specs.declared.Validated.{Validated}
 use Rattle.storage.specs.declared.Validated.the-variants.{Legal, Illegal}
 use Rattle.storage.specs.Geometry.{geometryTest}
 use Rattle.storage.specs.Span.{spanTest}
-use Rattle.storage.specs.Answers.{numberOf, numberOfValidated, answered, errorOf}
+use Rattle.storage.specs.Answers.{numberOf, numberOfValidated, answered}
 use Rattle.storage.proofs.Checks.{passes, fails}
 use Rattle.device.specs.declared.OneWayBits.{OneWayBits}
 use Rattle.device.specs.declared.FaultError.{FaultError}
@@ -35,7 +35,7 @@ use Rattle.device.specs.declared.FaultError.the-variants as fault
 use Rattle.device.specs.declared.Reply.{Reply}
 use Rattle.device.specs.declared.Reply.the-variants.{Accepted, Refused}
 use Rattle.device.specs.Media.{wouldSetABit, programmed, erased}
-use Rattle.device.specs.Answers.{numberOfReply, faultOf, replied, rejects}
+use Rattle.device.specs.Answers.{numberOfReply, replied, rejects}
 use Rattle.device.specs.Calls.{mediaTest, bufferTest, readRefusal, writeRefusal, eraseRefusal, programRefusal, Called, called, readCall, programCall, eraseCall}
 use Rattle.device.proofs.Accepted.{read-known}
 use Rattle.device.proofs.Numbers.{small-geometry, small-span, answer-number, reply-numbered, first-le, media-le, buffer-le, none-le-7}

@@ -3,16 +3,14 @@
 --     part-part       a part of a part
 --     on-split        f done to the first k elements and then g to the next m is what does both done to k + m
 -- Assumes nothing.
-use mathlib.Core.Path.{_≡_, refl, sym, ap, ap₂, _∙_}
-use mathlib.Core.Logic.{⊎-elim}
-use mathlib.Core.List.{List, [], _∷_, _++_, append-assoc}
-use Prim.Native.Nat.{ℕ, _+_, _-_, _≤_, _<_}
+use mathlib.Core.Path.{_≡_, sym, ap, ap₂, _∙_}
+use mathlib.Core.List.{List, _++_, append-assoc}
+use Prim.Native.Nat.{ℕ, _+_, _-_, _≤_}
 use native.Mathlib.Omega.{arith}
-use lib.ListN.{length, take, drop, length-append, length-drop, take-append-drop}
+use lib.ListN.{length, take, drop, length-append}
 use lib.Seq.{length-take-le, take-at, drop-at, drop-drop, take-add}
 use Rattle.basics.specs.Parts.{part, overlaid, onPart}
-use Rattle.basics.proofs.Tests.{le-or-gt}
-use Rattle.basics.proofs.Parts.{length-part, on-in, on-out, length-on, after-part}
+use Rattle.basics.proofs.Parts.{length-part, on-in, length-on, after-part}
 
 pub part-append : {A : Type 0} (xs : List A) (offset k m : ℕ) → part xs offset (k + m) ≡ part xs offset k ++ part xs (offset + k) m
 unfolding part

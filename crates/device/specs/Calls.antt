@@ -14,7 +14,7 @@ use Rattle.device.specs.declared.OneWayBits.{OneWayBits}
 use Rattle.device.specs.declared.Reply.{Reply}
 use Rattle.device.specs.declared.Postimage.{Postimage}
 use Rattle.device.specs.declared.Postimage.the-variants.{Cells, BufferTooShort}
-use Rattle.device.specs.Media.{programmed, erased, wouldSetABit, postimage}
+use Rattle.device.specs.Media.{programmed, erased, wouldSetABit}
 use Rattle.device.specs.Answers.{replied, rejects}
 
 -- ---- which number refuses a call, 0 for none

@@ -1,6 +1,6 @@
 -- Document 01, "device.rs (342)": the media, a list of cells of a byte each, and what may be asked of them.
 -- Definitions only; assumes nothing.
-use mathlib.Core.Bool.{Bool, not, _&&_, _||_, cond, true, false}
+use mathlib.Core.Bool.{Bool, not, _&&_, _||_, cond, false}
 use mathlib.Core.List.{List, [], _∷_, zipWith}
 use Prim.Native.Nat.{ℕ}
 use lib.ListN.{length, replicate}

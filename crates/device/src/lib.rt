@@ -8,15 +8,15 @@ use storage::GeometryError;
 use storage::Validated;
 ghost use mathlib.Core.Path.{_≡_};
 ghost use mathlib.Core.Bool.{not};
-ghost use mathlib.Core.List.{List, [], _∷_};
-ghost use Prim.Native.Nat.{ℕ, _+_, _≤_};
+ghost use mathlib.Core.List.{[], _∷_};
+ghost use Prim.Native.Nat.{_+_};
 ghost use lib.ListN.{length, replicate};
 ghost use Rattle.basics.specs.Tests.{firstOf};
 ghost use Rattle.storage.specs.Geometry.{geometryTest};
 ghost use Rattle.storage.specs.Answers.{numberOfValidated, answered};
 ghost use Rattle.device.specs.Media.{ff, newMedia, anded, anyPair, unequal, Applied, applied, programmed, erased, setsABit, wouldSetABit, postimage, differsFrom, eraseWouldChange};
 ghost use Rattle.device.specs.Answers.{numberOfFault, numberOfReply, numberOfPostimage, replied};
-ghost use Rattle.device.specs.Calls.{mediaTest, readRefusal, writeRefusal, eraseRefusal, barrierRefusal, Called, readCall, programCall, eraseCall, Copied, copied};
+ghost use Rattle.device.specs.Calls.{mediaTest, readRefusal, writeRefusal, barrierRefusal, Called, readCall, programCall, eraseCall, Copied, copied};
 
 // The byte an erased cell reads as.
 pub const ERASED: u8 = 0xFF;

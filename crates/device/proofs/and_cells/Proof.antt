@@ -1,6 +1,6 @@
 -- `device::and_cells` meets its contract: after i turns the first i cells are their AND with `src` and the others as they were,
 -- and `changed` says whether one of those i differs from what it was. Assumes nothing.
-use mathlib.Core.Path.{_≡_, refl, sym, ap, _∙_}
+use mathlib.Core.Path.{_≡_, sym, ap, _∙_}
 use mathlib.Core.Bool.{not}
 use mathlib.Core.Logic.{⊎-elim}
 use mathlib.Core.List.{_++_}

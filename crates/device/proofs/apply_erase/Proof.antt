@@ -1,5 +1,5 @@
 -- `device::apply_erase` meets its contract: what the fill left of the part and told of it, said of the media. Assumes nothing.
-use mathlib.Core.Path.{_≡_, refl, sym, ap, _∙_}
+use mathlib.Core.Path.{_≡_, ap, _∙_}
 use Prim.Native.Nat.{_+_, _-_, _≤_}
 use lib.ListN.{length, take, drop, replicate, length-replicate}
 use borrow.Author.Tests.{lt-leb, le-leb}

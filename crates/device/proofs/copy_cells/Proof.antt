@@ -1,7 +1,7 @@
 -- `device::copy_cells` meets its contract: after i turns the first i bytes of `dst` are the cells' and the others as they were. Assumes nothing.
 use mathlib.Core.Path.{_≡_, refl, _∙_}
 use mathlib.Core.List.{_++_}
-use Prim.Native.Nat.{_≤_, _<_, _-_}
+use Prim.Native.Nat.{_≤_, _-_}
 use native.Mathlib.Omega.{arith}
 use lib.ListN.{length, take, drop, getD, length-set}
 use Rattle.basics.proofs.Overwrites.{over-more, over-all}

@@ -1,10 +1,8 @@
 -- `device::differ` meets its contract: no cell before `i` differs, so some cell does exactly if one from `i` on does.
 -- Assumes nothing.
 use mathlib.Core.Path.{_≡_, refl, sym, ap, _∙_}
-use mathlib.Core.Bool.{true, false}
-use Prim.Native.Nat.{ℕ, _+_, _-_, _≤_, _<_}
-use native.Mathlib.Omega.{arith}
-use lib.ListN.{length, take, drop}
+use Prim.Native.Nat.{ℕ, _+_, _-_, _≤_}
+use lib.ListN.{length, drop}
 use borrow.Author.Needs.{needs}
 use Rattle.device.specs.Media.{anyPair, unequal}
 use Rattle.device.proofs.Pairs.{block-lengths, found, passed, pair-block, pair-rest}

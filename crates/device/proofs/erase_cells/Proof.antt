@@ -1,8 +1,6 @@
 -- `device::erase_cells` meets its contract: a cell changed exactly if not all were erased before the fill. Assumes nothing.
-use mathlib.Core.Path.{_≡_, refl, sym, ap, _∙_}
-use Prim.Native.Nat.{_+_, _≤_}
-use lib.ListN.{length, replicate, length-replicate}
-use borrow.Author.Tests.{lt-leb, le-leb}
+use mathlib.Core.Path.{_≡_, ap, _∙_}
+use lib.ListN.{length, replicate}
 use mathlib.Core.Bool.{not, Bool·not-not}
 use Rattle.device.specs.Media.{ff, anyPair, unequal}
 use borrow.Author.Needs.{needs}

@@ -1,5 +1,5 @@
 -- `device::postimage_of` meets its contract: each of its three ways out is one law of proofs/Postimages.antt. Assumes nothing.
-use mathlib.Core.Path.{_≡_, sym, ap, _∙_}
+use mathlib.Core.Path.{sym, ap, _∙_}
 use Prim.Native.Nat.{_+_, _≤_}
 use lib.ListN.{length}
 use lib.Seq.{length-take-le}

@@ -1,5 +1,5 @@
 -- `device::read` meets its contract: refused, the buffer is as it was; accepted, it is the part of the media. Assumes nothing.
-use mathlib.Core.Path.{_≡_, sym, ap, _∙_}
+use mathlib.Core.Path.{sym, ap, _∙_}
 use Prim.Native.Nat.{_+_, _≤_}
 use lib.ListN.{length}
 use Rattle.basics.proofs.Parts.{part-lent, length-part}

@@ -1,10 +1,8 @@
 -- `device::sets_a_bit` meets its contract: no byte before `i` has a 1 where its cell has 0, so some byte has exactly if one from `i` on has.
 -- Assumes nothing.
 use mathlib.Core.Path.{_≡_, refl, sym, ap, _∙_}
-use mathlib.Core.Bool.{true, false}
-use Prim.Native.Nat.{ℕ, _+_, _-_, _≤_, _<_}
-use native.Mathlib.Omega.{arith}
-use lib.ListN.{length, take, drop}
+use Prim.Native.Nat.{ℕ, _+_, _-_, _≤_}
+use lib.ListN.{length, drop}
 use borrow.Author.Needs.{needs}
 use Rattle.device.specs.Media.{anyPair, setsABit}
 use Rattle.device.proofs.Pairs.{block-lengths, found, passed, pair-block, pair-rest}

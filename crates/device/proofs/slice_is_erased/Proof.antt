@@ -1,10 +1,9 @@
 -- `device::slice_is_erased` meets its contract: the cells before `i` are all erased, so some cell is not exactly if one from `i` on is not.
 -- Assumes nothing.
-use mathlib.Core.Path.{_≡_, refl, sym, ap, _∙_}
-use Prim.Native.Nat.{ℕ, _+_, _-_, _*_, _≤_, _<_}
+use mathlib.Core.Path.{_≡_, sym, ap, _∙_}
+use Prim.Native.Nat.{_-_, _≤_}
 use lib.ListN.{length, drop}
-use mathlib.Core.Bool.{not, true, false}
-use Rattle.device.specs.Media.{ff, anyPair, unequal}
+use mathlib.Core.Bool.{not}
 use Rattle.device.proofs.Pairs.{written, found, passed, fill-block, fill-rest}
 use borrow.Author.Needs.{needs}
 use Rattle.device.proofs.slice_is_erased.Statement.{statement}
