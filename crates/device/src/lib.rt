@@ -9,7 +9,6 @@ use storage::Validated;
 ghost use mathlib.Core.Path.{_≡_};
 ghost use mathlib.Core.Bool.{not};
 ghost use mathlib.Core.List.{[], _∷_};
-ghost use Prim.Native.Nat.{_+_};
 ghost use lib.ListN.{length, replicate};
 ghost use Rattle.basics.specs.Tests.{firstOf};
 ghost use Rattle.storage.specs.Geometry.{geometryTest};
