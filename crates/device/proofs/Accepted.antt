@@ -1,63 +1,35 @@
 -- What a call that no test refuses knows: the media are of capacity length, the geometry describes a device, and the span is
 -- whole units within the media.
---     span-known, span-fits    of a span alone
---     read-known, program-known, erase-known    of a call
+--     read-known, write-known, program-known, erase-known    of each call
 -- Assumes nothing.
 use mathlib.Core.Path.{_≡_}
-use mathlib.Core.Bool.{Bool, true, false, _&&_}
+use mathlib.Core.Bool.{false, _&&_}
 use mathlib.Core.List.{List, [], _∷_}
-use Prim.Native.Nat.{ℕ, _+_, _%_, _^_, _≤_}
+use Prim.Native.Nat.{ℕ, _+_, _≤_}
 use lib.ListN.{length}
-use lib.Dec.{eqb, leb, ltb}
-use borrow.Author.Tests.{eqb-true, leb-true}
-use Rattle.basics.specs.Tests.{unless, refuseIf, firstOf}
+use lib.Dec.{eqb}
+use borrow.Author.Tests.{eqb-true}
+use Rattle.basics.specs.Tests.{refuseIf, firstOf}
 use Rattle.basics.proofs.Tests.{unless-zero, refuse-zero, firstOf-zero}
 use Rattle.storage.specs.declared.Geometry.{Geometry}
 use Rattle.storage.specs.Geometry.{geometryTest}
+use Rattle.storage.proofs.Nesting.{Legal, legal}
 use Rattle.storage.specs.Span.{spanTest, eraseTest}
 use Rattle.device.specs.declared.OneWayBits.{OneWayBits}
 use Rattle.device.specs.Media.{wouldSetABit}
 use Rattle.device.specs.Answers.{rejects}
 use Rattle.device.specs.Calls.{mediaTest, bufferTest, readRefusal, writeRefusal, eraseRefusal, programRefusal}
 
-and-right : (a b : Bool) → (a && b) ≡ true → b ≡ true
-and-right true b e = e
-and-right false b e = let z : false ≡ true = e in cc
-
--- a span that no test refuses
-pub record Within (g : Geometry) (unit offset len : ℕ) : Type 0 where
-  pub geometry : geometryTest g ≡ 0
-  pub whole-offset : offset % unit ≡ 0
-  pub whole-length : len % unit ≡ 0
-  pub inside : offset + len ≤ g .capacity
-
-pub span-known : (g : Geometry) (unit offset len : ℕ) → spanTest g unit offset len ≡ 0 → Within g unit offset len
-unfolding spanTest
-span-known g unit offset len e =
-    let o = unless (eqb (offset % unit) 0) 4 in
-    let l = unless (eqb (len % unit) 0) 5 in
-    let f = unless (ltb (offset + len) (2 ^ 32) && leb (offset + len) (g .capacity)) 6 in
-    let one = firstOf-zero (geometryTest g) (o ∷ l ∷ f ∷ []) e in
-    let two = firstOf-zero o (l ∷ f ∷ []) (one .1) in
-    let three = firstOf-zero l (f ∷ []) (two .1) in
-    let four = firstOf-zero f [] (three .1) in
-    record {
-      geometry = one .0;
-      whole-offset = eqb-true (offset % unit) 0 (unless-zero (eqb (offset % unit) 0) 3 (two .0));
-      whole-length = eqb-true (len % unit) 0 (unless-zero (eqb (len % unit) 0) 4 (three .0));
-      inside = leb-true (offset + len) (g .capacity) (and-right (ltb (offset + len) (2 ^ 32)) (leb (offset + len) (g .capacity)) (unless-zero _ 5 (four .0)));
-    }
-
 -- a call that no test refuses: the span's units, and the media
 pub record Taken (g : Geometry) (unit media offset len : ℕ) : Type 0 where
   pub sized : media ≡ g .capacity
-  pub span : Within g unit offset len
+  pub span : Legal g unit offset len
   pub fits : offset + len ≤ media
 
 taken : (g : Geometry) (unit media offset len : ℕ) → mediaTest g media ≡ 0 → spanTest g unit offset len ≡ 0 → Taken g unit media offset len
 taken g unit media offset len m s =
     let e : media ≡ g .capacity = eqb-true media (g .capacity) (unless-zero (eqb media (g .capacity)) 6 m) in
-    let w = span-known g unit offset len s in
+    let w = legal g unit offset len s in
     record { sized = e; span = w; fits = rw e (w .inside) }
 
 buffered : (g : Geometry) (unit media offset buffer : ℕ)
