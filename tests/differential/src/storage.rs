@@ -5,7 +5,7 @@ use waymaker_flash::storage::{Geometry, GeometryError};
 
 pub const LAYER: Layer = Layer { name: "storage", compare, bench, sample };
 
-// crates/exported/src/storage_calls.rt. Nothing proves that these declarations are those of that file: this is what is
+// crates/storage_exported/src/lib.rt. Nothing proves that these declarations are those of that file: this is what is
 // trusted here. A slice crosses as a pointer, then a length; a reference as a pointer.
 unsafe extern "C" {
     fn storage_new(capacity: u32, erase: u32, program: u32, read: u32, kept: *mut u32, kept_len: usize) -> u32;

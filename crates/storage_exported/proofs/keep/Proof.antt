@@ -1,8 +1,8 @@
--- `exported::keep` meets its contract: each of the four calls stores one unit. Assumes nothing.
+-- `storage_exported::keep` meets its contract: each of the four calls stores one unit. Assumes nothing.
 use borrow.Author.Needs.{needs}
-use Rattle.exported.specs.Storage.{unitsIn}
-use Rattle.exported.proofs.storage_calls.keep.Statement.{statement}
-use Rattle.exported.proofs.storage_calls.keep.Tie as tie
+use Rattle.storage_exported.specs.Storage.{unitsIn}
+use Rattle.storage_exported.proofs.keep.Statement.{statement}
+use Rattle.storage_exported.proofs.keep.Tie as tie
 
 store-u32-requires : tie.Need-store-u32-requires
 store-u32-requires c κs = search needs

@@ -1,8 +1,11 @@
-// The layer `storage`: a geometry as its four units, an answer as document 01's number, 0 where nothing is refused.
+// The layer `storage` for callers in Rust or C, which tests/differential holds against the original Rust: numbers and lent
+// slices in, a number out. Each function takes the layer's values from numbers, makes one call, and gives the answer as
+// numbers, so that a comparison of the numbers is one of the layer: a geometry is its four units, an answer is document 01's
+// number, 0 where nothing is refused. A slice crosses as a pointer, then a length.
 ghost use mathlib.Core.Path.{_≡_};
 ghost use Rattle.storage.specs.Geometry.{geometryTest, geometryOf};
 ghost use Rattle.storage.specs.Span.{readTest, programTest, eraseTest};
-ghost use Rattle.exported.specs.Storage.{unitsIn, keptOf, blocksOver};
+ghost use Rattle.storage_exported.specs.Storage.{unitsIn, keptOf, blocksOver};
 use basics::store_u32;
 use storage::EraseBlocks;
 use storage::Geometry;

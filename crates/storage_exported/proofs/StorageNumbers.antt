@@ -20,7 +20,7 @@ use Rattle.storage.specs.Geometry.{anyZero, noPowerOfTwo, unnested, geometryTes
 use Rattle.storage.specs.Span.{spanTest}
 use Rattle.storage.specs.Answers.{numberOf, numberOfValidated, errorOf, answered, described, blocksOf}
 use Rattle.storage.proofs.Numbers.{numbered}
-use Rattle.exported.specs.Storage.{unitsIn, keptOf, blocksOver}
+use Rattle.storage_exported.specs.Storage.{unitsIn, keptOf, blocksOver}
 
 -- ---- no test gives more than its highest number
 

@@ -1,8 +1,8 @@
--- `exported::storage_erase_blocks` meets its contract: the answer told which case it is, and with it the test's number. Assumes nothing.
+-- `storage_exported::storage_erase_blocks` meets its contract: the answer told which case it is, and with it the test's number. Assumes nothing.
 use borrow.Author.Needs.{needs}
-use Rattle.exported.proofs.StorageNumbers.{blocks-taken, blocks-refused}
-use Rattle.exported.proofs.storage_calls.storage_erase_blocks.Statement.{statement}
-use Rattle.exported.proofs.storage_calls.storage_erase_blocks.Tie as tie
+use Rattle.storage_exported.proofs.StorageNumbers.{blocks-taken, blocks-refused}
+use Rattle.storage_exported.proofs.storage_erase_blocks.Statement.{statement}
+use Rattle.storage_exported.proofs.storage_erase_blocks.Tie as tie
 
 erase-blocks-requires : tie.Need-erase-blocks-requires
 erase-blocks-requires c κs = search needs

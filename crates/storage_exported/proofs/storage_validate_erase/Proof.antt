@@ -1,8 +1,8 @@
--- `exported::storage_validate_erase` meets its contract: the number of the answer is the number of the test. Assumes nothing.
+-- `storage_exported::storage_validate_erase` meets its contract: the number of the answer is the number of the test. Assumes nothing.
 use borrow.Author.Needs.{needs}
-use Rattle.exported.proofs.StorageNumbers.{span-refusal}
-use Rattle.exported.proofs.storage_calls.storage_validate_erase.Statement.{statement}
-use Rattle.exported.proofs.storage_calls.storage_validate_erase.Tie as tie
+use Rattle.storage_exported.proofs.StorageNumbers.{span-refusal}
+use Rattle.storage_exported.proofs.storage_validate_erase.Statement.{statement}
+use Rattle.storage_exported.proofs.storage_validate_erase.Tie as tie
 
 validate-erase-requires : tie.Need-validate-erase-requires
 validate-erase-requires c κs = search needs

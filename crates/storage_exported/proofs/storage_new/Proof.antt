@@ -1,9 +1,9 @@
--- `exported::storage_new` meets its contract: the answer told which case it is, and with it the test's number. Assumes nothing.
+-- `storage_exported::storage_new` meets its contract: the answer told which case it is, and with it the test's number. Assumes nothing.
 use mathlib.Core.Path.{_∙_}
 use borrow.Author.Needs.{needs}
-use Rattle.exported.proofs.StorageNumbers.{new-taken, new-refused}
-use Rattle.exported.proofs.storage_calls.storage_new.Statement.{statement}
-use Rattle.exported.proofs.storage_calls.storage_new.Tie as tie
+use Rattle.storage_exported.proofs.StorageNumbers.{new-taken, new-refused}
+use Rattle.storage_exported.proofs.storage_new.Statement.{statement}
+use Rattle.storage_exported.proofs.storage_new.Tie as tie
 
 new-requires : tie.Need-new-requires
 new-requires c κs = search needs
