@@ -8,3 +8,7 @@ pub mod Refusals
 pub mod Rows
 pub mod Walks
 pub mod Listings
+pub mod Formula
+pub mod Examples
+pub mod Members
+pub mod Distinct
