@@ -12,3 +12,4 @@ pub mod Formula
 pub mod Examples
 pub mod Members
 pub mod Distinct
+pub mod Numbers

@@ -455,15 +455,8 @@ pub fn injection_at(
         geometry,
         Interruption::PowerLoss,
     );
-    let alone = seek_lone(lost, kinds.len());
-    let reset = seek(
-        alone,
-        kinds,
-        offsets,
-        lens,
-        geometry,
-        Interruption::Watchdog,
-    );
+    let lone = seek_lone(lost, kinds.len());
+    let reset = seek(lone, kinds, offsets, lens, geometry, Interruption::Watchdog);
     let failed = seek(reset, kinds, offsets, lens, geometry, Interruption::Failure);
     match failed {
         Sought::At(injection) => Found::Point(injection),
