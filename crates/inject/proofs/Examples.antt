@@ -1,11 +1,9 @@
 -- Document 01's fixed examples on points, by computation: "points of an empty list 2, a lone barrier 5, an erase of 16 with
 -- block 8, 9"; and the ten points of its sweep. Assumes nothing.
 use mathlib.Core.Path.{_≡_, refl}
-use mathlib.Core.List.{List, [], _∷_}
+use mathlib.Core.List.{[], _∷_}
 use lib.ListN.{length}
-use Rattle.storage.specs.declared.Geometry.{Geometry}
 use Rattle.storage.specs.Geometry.{geometryOf}
-use Rattle.inject.specs.declared.Op.{Op}
 use Rattle.inject.specs.declared.Op.the-variants.{Program, Erase, Barrier}
 use Rattle.inject.specs.declared.Progress.the-variants.{None, Whole}
 use Rattle.inject.specs.declared.Interruption.the-variants.{PowerLoss, Watchdog, Failure}

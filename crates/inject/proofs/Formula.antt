@@ -2,19 +2,17 @@
 -- one more opens the list, and an empty list has 2." Assumes nothing.
 use mathlib.Core.Path.{_≡_, refl, sym, ap, _∙_}
 use mathlib.Core.List.{List, [], _∷_, _++_, map}
-use Prim.Native.Nat.{ℕ, zero, suc, _+_, _-_, _*_, _/_, _≤_, _<_}
+use Prim.Native.Nat.{ℕ, zero, suc, _+_, _-_, _*_, _/_, _<_}
 use native.Mathlib.Nat.{div-eq-of-lt, add-div-right, div-one}
 use native.Mathlib.Omega.{arith}
 use lib.ListN.{length, length-append, length-map}
 use Rattle.storage.specs.declared.Geometry.{Geometry}
 use Rattle.inject.specs.declared.Op.{Op}
 use Rattle.inject.specs.declared.Op.the-variants.{Program, Erase, Barrier}
-use Rattle.inject.specs.declared.Progress.{Progress}
-use Rattle.inject.specs.declared.Progress.the-variants.{None, Bytes, Whole}
+use Rattle.inject.specs.declared.Progress.the-variants.{Bytes, Whole}
 use Rattle.inject.specs.declared.Interruption.{Interruption}
 use Rattle.inject.specs.declared.Interruption.the-variants.{PowerLoss, Watchdog, Failure}
 use Rattle.inject.specs.Points.{inner, wholeSpan, progresses, under, lone, injectionsOf}
-use Rattle.inject.specs.Steps.{steps}
 use Rattle.inject.specs.Claims.{ceil, given, sumOf}
 use Rattle.inject.proofs.Spans.{steps-multiples}
 use Rattle.inject.proofs.Groups.{length-steps}

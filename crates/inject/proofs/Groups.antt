@@ -1,7 +1,7 @@
 -- One operation's points under one interruption, from four numbers. Assumes nothing.
 use mathlib.Core.Path.{_≡_, refl, sym, ap, _∙_}
 use mathlib.Core.Logic.{⊎-elim}
-use mathlib.Core.List.{List, [], _∷_, _++_, map}
+use mathlib.Core.List.{[], _∷_, _++_, map}
 use Prim.Native.Nat.{ℕ, zero, suc, _+_, _-_, _*_, _^_, _≤_, _<_}
 use native.Mathlib.Nat.{not-suc-le-zero, le-of-suc-le-suc, eq-or-lt-of-le, lt-of-le-of-lt, mul-le-mul-right}
 use native.Mathlib.Numerals.{add-one}
@@ -11,7 +11,6 @@ use lib.Seq.{getD-at, getD-append-add}
 use Rattle.storage.specs.declared.Geometry.{Geometry}
 use Rattle.inject.specs.declared.Op.{Op}
 use Rattle.inject.specs.declared.Op.the-variants.{Program, Erase, Barrier}
-use Rattle.inject.specs.declared.Progress.{Progress}
 use Rattle.inject.specs.declared.Progress.the-variants.{None, Bytes, Whole}
 use Rattle.inject.specs.declared.Interruption.{Interruption}
 use Rattle.inject.specs.declared.Interruption.the-variants.{PowerLoss, Watchdog, Failure}

@@ -1,62 +1,39 @@
 -- All points stored: what is asked of the columns, and what they hold at the end. Assumes nothing.
 use mathlib.Core.Path.{_≡_, refl, sym, ap, ap₂, subst, _∙_}
 use mathlib.Core.Bool.{Bool, true, false, _&&_}
-use mathlib.Core.List.{List, [], _∷_, _++_}
+use mathlib.Core.List.{List, _++_}
 use Prim.Native.Nat.{ℕ, _+_, _≤_, _<_}
 use native.Mathlib.Nat.{zero-add}
-use lib.ListN.{length, replicate}
+use lib.ListN.{length}
 use lib.Dec.{eqb}
 use borrow.Author.Tests.{eq-eqb, ne-eqb, eqb-true, le-leb, lt-leb}
 use Rattle.basics.specs.Tests.{unless, firstOf}
 use Rattle.storage.specs.declared.Geometry.{Geometry}
-use Rattle.inject.specs.declared.Interruption.the-variants.{PowerLoss, Watchdog, Failure}
 use Rattle.inject.specs.declared.Injection.{Injection}
-use Rattle.inject.specs.declared.Written.{Written}
 use Rattle.inject.specs.declared.Written.the-variants.{All, NotWritten}
-use Rattle.inject.specs.Ops.{opsOf}
-use Rattle.inject.specs.Points.{under, opening}
 use Rattle.inject.specs.Answers.{listTest, pointsOf, PointColumns, equalColumns, written, listing, listed}
-use Rattle.inject.specs.Steps.{Sound, lonePoint, loneFor, laid, laidFrom, Room, Rows, rows}
+use Rattle.inject.specs.Steps.{laidFrom, Room, Rows, rows}
 use Rattle.inject.proofs.Refusals.{passes}
-use Rattle.inject.proofs.Whole.{joined}
 use Rattle.inject.proofs.Rows.{then-rows, first-room, next-room, begun-rows}
 
--- ---- the list in the three parts that are written
+-- ---- a list that is written in two parts
 
-module _ (g : Geometry) (ks os ls : List ℕ) (s : Sound g ks os ls) (times : ℕ) (alone : replicate times lonePoint ≡ loneFor (length ks)) where
-  abbrev lost : List Injection
-  lost = replicate 1 opening ++ under g PowerLoss 0 (opsOf ks os ls)
+module _ (at : ℕ) (all xs ys : List Injection) (two : all ≡ xs ++ ys) (c : PointColumns) (room : Room (at + length all) c) where
+  both-room : Room (at + length (xs ++ ys)) c
+  both-room = subst (λ (zs : List Injection). Room (at + length zs) c) two room
 
-  abbrev reset : List Injection
-  reset = replicate times lonePoint ++ under g Watchdog 0 (opsOf ks os ls)
+  pub room-first : Room (at + length xs) c
+  room-first = first-room at xs ys c both-room
 
-  abbrev failed : List Injection
-  failed = under g Failure 0 (opsOf ks os ls)
+  module _ (n : ℕ) (d : PointColumns) (e : rows n d ≡ laidFrom at xs c) where
+    pub room-second : Room (n + length ys) d
+    room-second = next-room at xs ys c both-room n d e
 
-  module _ (c : PointColumns) (room : Room (length (pointsOf g ks os ls)) c) where
-    all-room : Room (0 + length (lost ++ (reset ++ failed))) c
-    all-room =
-        subst (λ (n : ℕ). Room n c)
-        (ap length (joined g ks os ls s times alone) ∙ sym (zero-add (length (lost ++ (reset ++ failed))))) room
+    pub both-rows : (m : ℕ) (f : PointColumns) → rows m f ≡ laidFrom n ys d → rows m f ≡ laidFrom at all c
+    both-rows m f q = then-rows at n m xs ys c d f e q ∙ ap (λ (zs : List Injection). laidFrom at zs c) (sym two)
 
-    pub lost-room : Room (0 + length lost) c
-    lost-room = first-room 0 lost (reset ++ failed) c all-room
-
-    module _ (n : ℕ) (d : PointColumns) (e : rows n d ≡ laidFrom 0 lost c) where
-      rest-room : Room (n + length (reset ++ failed)) d
-      rest-room = next-room 0 lost (reset ++ failed) c all-room n d e
-
-      pub reset-room : Room (n + length reset) d
-      reset-room = first-room n reset failed d rest-room
-
-      module _ (m : ℕ) (f : PointColumns) (q : rows m f ≡ laidFrom n reset d) where
-        pub failed-room : Room (m + length failed) f
-        failed-room = next-room n reset failed d rest-room m f q
-
-        pub all-rows : (k : ℕ) (l : PointColumns) → rows k l ≡ laidFrom m failed f → rows k l ≡ laidFrom 0 (pointsOf g ks os ls) c
-        all-rows k l t =
-            then-rows 0 n k lost (reset ++ failed) c d l e (then-rows n m k reset failed d f l q t)
-            ∙ ap (λ (xs : List Injection). laidFrom 0 xs c) (sym (joined g ks os ls s times alone))
+pub from-first : (all : List Injection) (c : PointColumns) → Room (length all) c → Room (0 + length all) c
+from-first all c r = rw (zero-add (length all)) r
 
 -- ---- columns of one length
 

@@ -1,11 +1,11 @@
 -- Points stored in the lent columns, one to a row from a place on, and then more of them. Assumes nothing.
 use mathlib.Core.Path.{_≡_, refl, sym, ap, ap₂, subst, _∙_}
 use mathlib.Core.List.{List, [], _∷_, _++_, map, map-append}
-use Prim.Native.Nat.{ℕ, zero, suc, _+_, _*_, _≤_, _<_}
+use Prim.Native.Nat.{ℕ, zero, suc, _+_, _*_, _≤_}
 use native.Mathlib.Nat.{add-zero, zero-add, le-trans}
 use native.Mathlib.Numerals.{add-one}
 use native.Mathlib.Omega.{arith}
-use lib.ListN.{length, drop, set, replicate, length-append, length-map, length-replicate, replicate-append-replicate}
+use lib.ListN.{length, set, replicate, length-append, length-map, length-replicate, replicate-append-replicate}
 use lib.Seq.{sets, length-sets, sets-eq}
 use Rattle.inject.specs.declared.Progress.the-variants.{None, Bytes, Whole}
 use Rattle.inject.specs.declared.Interruption.{Interruption}

@@ -1,8 +1,8 @@
 -- The inner multiples of a unit are its first ones: `(len - 1) / unit` of them. Assumes nothing.
-use mathlib.Core.Path.{_≡_, refl, sym, ap, _∙_}
+use mathlib.Core.Path.{_≡_, ap, _∙_}
 use mathlib.Core.Logic.{_⊎_, inl, inr, ⊎-elim}
-use mathlib.Core.List.{List, [], _∷_, _++_, append-nil}
-use Prim.Native.Nat.{ℕ, zero, suc, _+_, _-_, _*_, _/_, _%_, _^_, _≤_, _<_}
+use mathlib.Core.List.{append-nil}
+use Prim.Native.Nat.{ℕ, zero, suc, _+_, _-_, _*_, _/_, _%_, _^_, _<_}
 use native.Mathlib.Nat.{mod-lt, div-add-mod', eq-or-lt-of-le, div-eq-of-eq-mul-left, div-eq-of-lt-le, mul-mod-left, mul-add-mod-self-right, mod-eq-of-lt, suc-mul, add-mul, one-mul, zero-div, div-mul-le-self, not-suc-le-zero, lt-of-le-of-lt, mul-le-mul-right}
 use native.Mathlib.Numerals.{sub-one}
 use native.Mathlib.Omega.{arith}

@@ -2,10 +2,9 @@
 use mathlib.Core.Path.{_≡_, refl, sym, ap, _∙_}
 use mathlib.Core.Bool.{true}
 use mathlib.Core.List.{List, [], _∷_, _++_, append-assoc}
-use Prim.Native.Nat.{ℕ, zero, suc, _+_, _≤_, _<_}
+use Prim.Native.Nat.{ℕ, zero, suc, _+_}
 use native.Mathlib.Omega.{arith}
-use lib.ListN.{length, getD, replicate, length-append, length-replicate}
-use lib.Dec.{eqb}
+use lib.ListN.{length, replicate, length-append, length-replicate}
 use borrow.Author.Tests.{eq-eqb, ne-eqb, lt-ltb, le-ltb}
 use Rattle.basics.specs.Tests.{unless, firstOf}
 use Rattle.storage.specs.declared.Geometry.{Geometry}
@@ -17,8 +16,8 @@ use Rattle.inject.specs.declared.Sought.{Sought}
 use Rattle.inject.specs.declared.Sought.the-variants.{At, Past}
 use Rattle.inject.specs.Ops.{opsOf}
 use Rattle.inject.specs.Points.{under, lone, opening, injectionsOf}
-use Rattle.inject.specs.Answers.{listTest, pointsOf, counted, placeTest, found}
-use Rattle.inject.specs.Steps.{Sound, lonePoint, loneFor, sought, onward}
+use Rattle.inject.specs.Answers.{listTest, pointsOf, counted, found}
+use Rattle.inject.specs.Steps.{Sound, lonePoint, loneFor, partOf, laterOf, sought, onward}
 use Rattle.inject.proofs.Searches.{onward-next, sought-at, sought-beyond}
 
 -- ---- the point that only an empty list has
@@ -33,6 +32,10 @@ lone-for [] os ls h k = refl
 lone-for (a ∷ ks) [] ls h k = absurd (omega arith)
 lone-for (a ∷ ks) (b ∷ os) [] h k = absurd (omega arith)
 lone-for (a ∷ ks) (b ∷ os) (d ∷ ls) h k = refl
+
+pub later-in-two : (g : Geometry) (ks os ls : List ℕ) (times : ℕ) → replicate times lonePoint ≡ loneFor (length ks)
+    → laterOf g ks os ls ≡ partOf times Watchdog g ks os ls ++ under g Failure 0 (opsOf ks os ls)
+later-in-two g ks os ls times e = rw e (sym (append-assoc (loneFor (length ks)) _ _))
 
 -- ---- a sound list's points, part by part
 
@@ -52,10 +55,8 @@ module _ (g : Geometry) (ks os ls : List ℕ) (s : Sound g ks os ls) where
       sym (ap length parts ∙ simp (length-append) (omega arith))
 
   -- the same, as the parts are written
-  pub joined : (times : ℕ) → replicate times lonePoint ≡ loneFor (length ks) → pointsOf g ks os ls
-      ≡ (replicate 1 opening ++ under g PowerLoss 0 (opsOf ks os ls))
-      ++ ((replicate times lonePoint ++ under g Watchdog 0 (opsOf ks os ls)) ++ under g Failure 0 (opsOf ks os ls))
-  joined times e = parts ∙ rw (e, append-assoc (loneFor (length ks)))
+  pub in-two : pointsOf g ks os ls ≡ partOf 1 PowerLoss g ks os ls ++ laterOf g ks os ls
+  in-two = parts
 
   -- five searches, one after the other
   pub whole-search : (n : ℕ) (a b d e f : Sought) → a ≡ onward (Past n) (opening ∷ []) → b ≡ onward a (under g PowerLoss 0 (opsOf ks os ls))

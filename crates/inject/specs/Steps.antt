@@ -11,13 +11,13 @@ use Rattle.inject.specs.declared.Op.the-variants.{Program, Erase, Barrie
 use Rattle.inject.specs.declared.Progress.{Progress}
 use Rattle.inject.specs.declared.Progress.the-variants.{None, Bytes, Whole}
 use Rattle.inject.specs.declared.Interruption.{Interruption}
-use Rattle.inject.specs.declared.Interruption.the-variants.{Watchdog}
+use Rattle.inject.specs.declared.Interruption.the-variants.{Watchdog, Failure}
 use Rattle.inject.specs.declared.Injection.{Injection}
 use Rattle.inject.specs.declared.Group.{Group}
 use Rattle.inject.specs.declared.Sought.{Sought}
 use Rattle.inject.specs.declared.Sought.the-variants.{At, Past}
-use Rattle.inject.specs.Ops.{opOf}
-use Rattle.inject.specs.Points.{progresses, point}
+use Rattle.inject.specs.Ops.{opOf, opsOf}
+use Rattle.inject.specs.Points.{progresses, point, under}
 use Rattle.inject.specs.Answers.{most, PointColumns, columnsOf, progressCode, countCode, interruptionCode}
 
 -- ---- a list that is not refused
@@ -74,6 +74,17 @@ lonePoint = point 0 Watchdog None
 abbrev pub loneFor : (operations : ℕ) → List Injection
 loneFor zero = lonePoint ∷ []
 loneFor (suc n) = []
+
+-- ---- the list in the parts that are written one after the other
+
+-- a none point of operation 0 so many times, and then an interruption by operation
+abbrev pub partOf : (times : ℕ) → Interruption → Geometry → (kinds offsets lens : List ℕ) → List Injection
+partOf times w g kinds offsets lens = replicate times (point 0 w None) ++ under g w 0 (opsOf kinds offsets lens)
+
+-- what follows the points of power loss
+abbrev pub laterOf : Geometry → (kinds offsets lens : List ℕ) → List Injection
+laterOf g kinds offsets lens =
+    loneFor (length kinds) ++ (under g Watchdog 0 (opsOf kinds offsets lens) ++ under g Failure 0 (opsOf kinds offsets lens))
 
 -- ---- a search
 

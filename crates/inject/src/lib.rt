@@ -5,13 +5,13 @@
 // The spans are any u32: no point depends on where the device ends, so nothing here asks it.
 use storage::Geometry;
 ghost use mathlib.Core.Path.{_≡_};
-ghost use mathlib.Core.List.{[], _∷_, _++_, map};
+ghost use mathlib.Core.List.{[], _∷_, map};
 ghost use Prim.Native.Nat.{_+_, _*_, _≤_, _<_, _^_};
 ghost use lib.ListN.{length, getD, replicate};
 ghost use Rattle.inject.specs.Ops.{opOf, opsOf, known, lenOf};
 ghost use Rattle.inject.specs.Points.{inner, wholeSpan, wholePoint, point, under};
-ghost use Rattle.inject.specs.Answers.{most, listTest, pointsOf, counted, found, columnsOf, written, Listing, listing, listed, progressCode, countCode, interruptionCode};
-ghost use Rattle.inject.specs.Steps.{Sound, opAt, tearUnit, resetUnit, steps, grouped, Small, GroupOf, lonePoint, loneFor, sought, onward, laid, laidFrom, bytesAt, Room, Rows, rows};
+ghost use Rattle.inject.specs.Answers.{most, listTest, pointsOf, counted, found, columnsOf, listing, listed, progressCode, countCode, interruptionCode};
+ghost use Rattle.inject.specs.Steps.{Sound, opAt, tearUnit, resetUnit, steps, grouped, Small, GroupOf, lonePoint, loneFor, partOf, laterOf, sought, onward, laid, laidFrom, bytesAt, Room, rows};
 
 // One operation of a write sequence: offsets and lengths only.
 pub enum Op {
@@ -525,22 +525,29 @@ fn write_point(
     interruptions[at] = cause;
 }
 
-// Writes one point so many times: a group has none or one of its none points and of its whole points.
+// Writes one point so many times: an operation has none or one of its none points and of its whole points.
 fn write_same(
     times: u32,
-    injection: Injection,
+    progress: Progress,
+    op: usize,
+    cause: Interruption,
     at: usize,
     ops: &mut [u32],
     progresses: &mut [u8],
     counts: &mut [u32],
     interruptions: &mut [u8],
 ) -> usize
-    requires { ⌜ (injection .op < most) × (Room (at + times) (columnsOf (now ops) (now progresses) (now counts) (now interruptions))) ⌝ }
-    ensures { λ r. ⌜ rows r (columnsOf (now (ops .exit)) (now (progresses .exit)) (now (counts .exit)) (now (interruptions .exit))) ≡ laidFrom at (replicate times injection) (columnsOf (now (ops .entry)) (now (progresses .entry)) (now (counts .entry)) (now (interruptions .entry))) ⌝ }
+    requires { ⌜ (op < most) × (Room (at + times) (columnsOf (now ops) (now progresses) (now counts) (now interruptions))) ⌝ }
+    ensures { λ r. ⌜ rows r (columnsOf (now (ops .exit)) (now (progresses .exit)) (now (counts .exit)) (now (interruptions .exit))) ≡ laidFrom at (replicate times (point op cause progress)) (columnsOf (now (ops .entry)) (now (progresses .entry)) (now (counts .entry)) (now (interruptions .entry))) ⌝ }
 {
     let mut next = at;
     let mut done: u32 = 0;
     while done < times {
+        let injection = Injection {
+            op,
+            progress,
+            interruption: cause,
+        };
         write_point(injection, next, ops, progresses, counts, interruptions);
         next += 1;
         done += 1;
@@ -592,19 +599,11 @@ fn write_group(
     requires { ⌜ (op < most) × (Small group) × (Room (at + length (grouped group)) (columnsOf (now ops) (now progresses) (now counts) (now interruptions))) ⌝ }
     ensures { λ r. ⌜ rows r (columnsOf (now (ops .exit)) (now (progresses .exit)) (now (counts .exit)) (now (interruptions .exit))) ≡ laidFrom at (map (point op cause) (grouped group)) (columnsOf (now (ops .entry)) (now (progresses .entry)) (now (counts .entry)) (now (interruptions .entry))) ⌝ }
 {
-    let none = Injection {
-        op,
-        progress: Progress::None,
-        interruption: cause,
-    };
-    let whole = Injection {
-        op,
-        progress: Progress::Whole,
-        interruption: cause,
-    };
     let first = write_same(
         group.nones,
-        none,
+        Progress::None,
+        op,
+        cause,
         at,
         ops,
         progresses,
@@ -624,7 +623,9 @@ fn write_group(
     );
     write_same(
         group.wholes,
-        whole,
+        Progress::Whole,
+        op,
+        cause,
         last,
         ops,
         progresses,
@@ -669,10 +670,9 @@ fn write_groups(
     next
 }
 
-// Writes one point so many times, and then the operations' points under an interruption.
+// Writes the none point of operation 0 so many times, and then the operations' points under the same interruption.
 fn write_part(
     times: u32,
-    injection: Injection,
     kinds: &[u8],
     offsets: &[u32],
     lens: &[u32],
@@ -684,10 +684,20 @@ fn write_part(
     counts: &mut [u32],
     interruptions: &mut [u8],
 ) -> usize
-    requires { ⌜ (injection .op < most) × (Sound geometry (now kinds) (now offsets) (now lens)) × (Room (at + length (replicate times injection ++ under geometry cause 0 (opsOf (now kinds) (now offsets) (now lens)))) (columnsOf (now ops) (now progresses) (now counts) (now interruptions))) ⌝ }
-    ensures { λ r. ⌜ rows r (columnsOf (now (ops .exit)) (now (progresses .exit)) (now (counts .exit)) (now (interruptions .exit))) ≡ laidFrom at (replicate times injection ++ under geometry cause 0 (opsOf (now (kinds .entry)) (now (offsets .entry)) (now (lens .entry)))) (columnsOf (now (ops .entry)) (now (progresses .entry)) (now (counts .entry)) (now (interruptions .entry))) ⌝ }
+    requires { ⌜ (Sound geometry (now kinds) (now offsets) (now lens)) × (Room (at + length (partOf times cause geometry (now kinds) (now offsets) (now lens))) (columnsOf (now ops) (now progresses) (now counts) (now interruptions))) ⌝ }
+    ensures { λ r. ⌜ rows r (columnsOf (now (ops .exit)) (now (progresses .exit)) (now (counts .exit)) (now (interruptions .exit))) ≡ laidFrom at (partOf times cause geometry (now (kinds .entry)) (now (offsets .entry)) (now (lens .entry))) (columnsOf (now (ops .entry)) (now (progresses .entry)) (now (counts .entry)) (now (interruptions .entry))) ⌝ }
 {
-    let next = write_same(times, injection, at, ops, progresses, counts, interruptions);
+    let next = write_same(
+        times,
+        Progress::None,
+        0,
+        cause,
+        at,
+        ops,
+        progresses,
+        counts,
+        interruptions,
+    );
     write_groups(
         kinds,
         offsets,
@@ -702,7 +712,50 @@ fn write_part(
     )
 }
 
-// Writes the points of a list that is not refused.
+// Writes all points but those of power loss. Before the operations' watchdog points comes the one that only an empty list has.
+fn write_later(
+    kinds: &[u8],
+    offsets: &[u32],
+    lens: &[u32],
+    geometry: Geometry,
+    at: usize,
+    ops: &mut [u32],
+    progresses: &mut [u8],
+    counts: &mut [u32],
+    interruptions: &mut [u8],
+) -> usize
+    requires { ⌜ (Sound geometry (now kinds) (now offsets) (now lens)) × (Room (at + length (laterOf geometry (now kinds) (now offsets) (now lens))) (columnsOf (now ops) (now progresses) (now counts) (now interruptions))) ⌝ }
+    ensures { λ r. ⌜ rows r (columnsOf (now (ops .exit)) (now (progresses .exit)) (now (counts .exit)) (now (interruptions .exit))) ≡ laidFrom at (laterOf geometry (now (kinds .entry)) (now (offsets .entry)) (now (lens .entry))) (columnsOf (now (ops .entry)) (now (progresses .entry)) (now (counts .entry)) (now (interruptions .entry))) ⌝ }
+{
+    let times = lone_count(kinds.len());
+    let reset = write_part(
+        times,
+        kinds,
+        offsets,
+        lens,
+        geometry,
+        Interruption::Watchdog,
+        at,
+        ops,
+        progresses,
+        counts,
+        interruptions,
+    );
+    write_groups(
+        kinds,
+        offsets,
+        lens,
+        geometry,
+        Interruption::Failure,
+        reset,
+        ops,
+        progresses,
+        counts,
+        interruptions,
+    )
+}
+
+// Writes the points of a list that is not refused: the opening point and those of power loss, and then the others.
 fn write_all(
     kinds: &[u8],
     offsets: &[u32],
@@ -716,20 +769,8 @@ fn write_all(
     requires { ⌜ (Sound geometry (now kinds) (now offsets) (now lens)) × (Room (length (pointsOf geometry (now kinds) (now offsets) (now lens))) (columnsOf (now ops) (now progresses) (now counts) (now interruptions))) ⌝ }
     ensures { λ r. ⌜ rows r (columnsOf (now (ops .exit)) (now (progresses .exit)) (now (counts .exit)) (now (interruptions .exit))) ≡ laidFrom 0 (pointsOf geometry (now (kinds .entry)) (now (offsets .entry)) (now (lens .entry))) (columnsOf (now (ops .entry)) (now (progresses .entry)) (now (counts .entry)) (now (interruptions .entry))) ⌝ }
 {
-    let first = Injection {
-        op: 0,
-        progress: Progress::None,
-        interruption: Interruption::PowerLoss,
-    };
-    let alone = Injection {
-        op: 0,
-        progress: Progress::None,
-        interruption: Interruption::Watchdog,
-    };
-    let times = lone_count(kinds.len());
     let lost = write_part(
         1,
-        first,
         kinds,
         offsets,
         lens,
@@ -741,27 +782,12 @@ fn write_all(
         counts,
         interruptions,
     );
-    let reset = write_part(
-        times,
-        alone,
+    write_later(
         kinds,
         offsets,
         lens,
         geometry,
-        Interruption::Watchdog,
         lost,
-        ops,
-        progresses,
-        counts,
-        interruptions,
-    );
-    write_groups(
-        kinds,
-        offsets,
-        lens,
-        geometry,
-        Interruption::Failure,
-        reset,
         ops,
         progresses,
         counts,

@@ -1,5 +1,4 @@
 -- `inject::group_at` meets its contract: the row's operation is `opAt`. Assumes nothing.
-use mathlib.Core.Path.{sym}
 use borrow.Author.Needs.{needs}
 use Rattle.inject.proofs.group_at.Statement.{statement}
 use Rattle.inject.proofs.group_at.Tie as tie

@@ -1,5 +1,4 @@
 -- `inject::group_of` meets its contract: each arm's numbers stand for the interruption's none, byte and whole points. Assumes nothing.
-use mathlib.Core.Path.{sym}
 use borrow.Author.Needs.{needs}
 use Rattle.inject.proofs.Groups.{tear-pos, reset-pos, made-lost, made-reset, made-failed}
 use Rattle.inject.proofs.group_of.Statement.{statement}

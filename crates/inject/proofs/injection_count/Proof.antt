@@ -1,5 +1,5 @@
 -- `inject::injection_count` meets its contract: the number that refuses, or the count of the points. Assumes nothing.
-use mathlib.Core.Path.{_≡_, sym, _∙_}
+use mathlib.Core.Path.{sym, _∙_}
 use borrow.Author.Needs.{needs}
 use Rattle.inject.proofs.Refusals.{passes}
 use Rattle.inject.proofs.Whole.{count-refused, count-taken}

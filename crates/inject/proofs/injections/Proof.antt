@@ -1,6 +1,6 @@
 -- `inject::injections` meets its contract: the number that refuses, too few rows, or every point written from the first row on.
 -- Assumes nothing.
-use mathlib.Core.Path.{_≡_, sym, _∙_}
+use mathlib.Core.Path.{sym, _∙_}
 use borrow.Author.Needs.{needs}
 use Rattle.inject.proofs.Refusals.{passes}
 use Rattle.inject.proofs.Listings.{write-refused, write-short, write-room, write-done}

@@ -1,6 +1,5 @@
 -- `inject::lone_count` meets its contract: only an empty list has a point of its own. Assumes nothing.
 use native.Mathlib.Omega.{arith}
-use borrow.Author.Needs.{needs}
 use Rattle.inject.proofs.Whole.{no-lone}
 use Rattle.inject.proofs.lone_count.Statement.{statement}
 use Rattle.inject.proofs.lone_count.Tie as tie

@@ -1,12 +1,9 @@
 -- `inject::refuse` meets its contract: each way out is one row of the definition's tests. Assumes nothing.
 use mathlib.Core.Path.{_≡_, sym, ap, _∙_}
-use mathlib.Core.Bool.{true}
 use borrow.Author.Needs.{needs}
 use borrow.Author.Tests.{not-true, not-false}
-use denote.Ref.{now}
 use Rattle.storage.specs.Geometry.{geometryTest}
 use Rattle.storage.specs.Answers.{numberOfValidated}
-use Rattle.inject.specs.Ops.{known}
 use Rattle.inject.proofs.Refusals.{check-number, stop-geometry, stop-offsets, stop-lens, stop-lent, stop-codes, stop-many, passed}
 use Rattle.inject.proofs.refuse.Statement.{statement}
 use Rattle.inject.proofs.refuse.Tie as tie

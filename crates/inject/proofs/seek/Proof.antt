@@ -1,5 +1,4 @@
 -- `inject::seek` meets its contract: what was found stays; else the search goes on in the operations' points. Assumes nothing.
-use mathlib.Core.Path.{_≡_}
 use borrow.Author.Needs.{needs}
 use Rattle.inject.proofs.seek.Statement.{statement}
 use Rattle.inject.proofs.seek.Tie as tie

@@ -1,7 +1,7 @@
 -- `inject::seek_groups` meets its contract. The invariant: what is left of the place, sought from row `i` on, is the place sought in the
 -- whole. Assumes nothing.
 use mathlib.Core.Path.{_≡_, refl, sym, ap, _∙_}
-use Prim.Native.Nat.{_+_, _*_, _-_, _≤_, _<_}
+use Prim.Native.Nat.{_-_, _≤_}
 use native.Mathlib.Omega.{arith}
 use lib.ListN.{length}
 use denote.Ref.{now}

@@ -1,5 +1,4 @@
 -- `inject::seek_lone` meets its contract: a list with operations has no such point. Assumes nothing.
-use mathlib.Core.Path.{_∙_, sym, ap}
 use borrow.Author.Needs.{needs}
 use Rattle.inject.proofs.Searches.{onward-none}
 use Rattle.inject.proofs.seek_lone.Statement.{statement}

@@ -1,9 +1,5 @@
 -- `inject::seek_one` meets its contract: what was found stays, place 0 is the point, any other place lies past it. Assumes nothing.
-use mathlib.Core.Path.{_∙_, sym, ap}
-use mathlib.Core.List.{[], _∷_}
 use borrow.Author.Needs.{needs}
-use Rattle.inject.specs.declared.Sought.{Sought}
-use Rattle.inject.specs.Steps.{onward}
 use Rattle.inject.proofs.Searches.{onward-one, onward-two}
 use Rattle.inject.proofs.seek_one.Statement.{statement}
 use Rattle.inject.proofs.seek_one.Tie as tie

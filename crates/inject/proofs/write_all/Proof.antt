@@ -1,47 +1,47 @@
--- `inject::write_all` meets its contract: the opening point with the power losses, an empty list's point with the watchdog points, the
--- failures, one part after the other. Assumes nothing.
+-- `inject::write_all` meets its contract: the opening point with the power losses, and then the others. Assumes nothing.
+use mathlib.Core.Path.{_≡_}
+use mathlib.Core.List.{List, _++_}
 use borrow.Author.Needs.{needs}
 use denote.Ref.{now}
-use Rattle.inject.proofs.Listings.{lost-room, reset-room, failed-room, all-rows}
+use Rattle.inject.specs.declared.Injection.{Injection}
+use Rattle.inject.specs.declared.Interruption.the-variants.{PowerLoss}
+use Rattle.inject.specs.Answers.{pointsOf}
+use Rattle.inject.specs.Steps.{partOf, laterOf}
+use Rattle.inject.proofs.Whole.{in-two}
+use Rattle.inject.proofs.Listings.{from-first, room-first, room-second, both-rows}
 use Rattle.inject.proofs.write_all.Statement.{statement}
 use Rattle.inject.proofs.write_all.Tie as tie
 
--- the ways back to the three calls, and from the first to the count before it and the start
+-- the ways back to the two calls, and to the start
 abbrev lost-done : tie.After-slice-known8 → tie.After-write-part
 lost-done c = c .before .before .before .before .before .before .before .before
 
-abbrev reset-done : tie.After-slice-known12 → tie.After-write-part2
-reset-done c = c .before .before .before .before .before .before .before .before
+abbrev later-done : tie.After-slice-known12 → tie.After-write-later
+later-done c = c .before .before .before .before .before .before .before .before
 
-abbrev failed-done : tie.After-slice-known16 → tie.After-write-groups
-failed-done c = c .before .before .before .before .before .before .before .before
+abbrev start : tie.After-write-part → tie.Start
+start c = c .before .before .before .before .before .before .before .before .before .before .before .before
 
-abbrev counted : tie.After-write-part → tie.After-lone-count
-counted c = c .before .before .before .before .before
+-- the two parts, and the whole
+abbrev lost : tie.Start → List Injection
+lost s = partOf 1 PowerLoss (s .args .geometry) (now (s .args .kinds)) (now (s .args .offsets)) (now (s .args .lens))
 
-abbrev start : tie.After-lone-count → tie.Start
-start c = c .before .before .before .before .before .before .before .before
+abbrev later : tie.Start → List Injection
+later s = laterOf (s .args .geometry) (now (s .args .kinds)) (now (s .args .offsets)) (now (s .args .lens))
 
-lone-count-requires : tie.Need-lone-count-requires
-lone-count-requires c κs = search needs
+abbrev all : tie.Start → List Injection
+all s = pointsOf (s .args .geometry) (now (s .args .kinds)) (now (s .args .offsets)) (now (s .args .lens))
+
+two : (s : tie.Start) → all s ≡ lost s ++ later s
+two s = in-two (s .args .geometry) (now (s .args .kinds)) (now (s .args .offsets)) (now (s .args .lens)) (s .pre .0)
 
 write-part-requires : tie.Need-write-part-requires
-write-part-requires c κs = let k = c .before .before .before .before in
-    let s = start k in
-    (search needs, s .pre .0, lost-room _ _ _ _ (s .pre .0) (k .lone-count .result) (k .lone-count .ensures .0) _ (s .pre .1))
+write-part-requires c κs = let s = c .before .before .before .before .before .before .before .before .before .before .before in (s .pre .0, room-first 0 _ (lost s) (later s) (two s) _ (from-first (all s) _ (s .pre .1)))
 
-write-part-requires-2 : tie.Need-write-part-requires-2
-write-part-requires-2 c κs = let e = lost-done (c .before .before .before .before) in
-    let k = counted e in
-    let s = start k in
-    (search needs, s .pre .0, reset-room _ _ _ _ (s .pre .0) (k .lone-count .result) (k .lone-count .ensures .0) _ (s .pre .1) _ _ (e .write-part .ensures))
-
-write-groups-requires : tie.Need-write-groups-requires
-write-groups-requires c κs = let f = reset-done (c .before .before .before .before) in
-    let e = lost-done (f .before .before .before .before .before) in
-    let k = counted e in
-    let s = start k in
-    (s .pre .0, failed-room _ _ _ _ (s .pre .0) (k .lone-count .result) (k .lone-count .ensures .0) _ (s .pre .1) _ _ (e .write-part .ensures) _ _ (f .write-part2 .ensures))
+write-later-requires : tie.Need-write-later-requires
+write-later-requires c κs = let e = lost-done (c .before .before .before .before) in
+    let s = start e in
+    (s .pre .0, room-second 0 _ (lost s) (later s) (two s) _ (from-first (all s) _ (s .pre .1)) _ _ (e .write-part .ensures))
 
 same-length : tie.Need-same-length
 same-length c = search needs
@@ -56,21 +56,17 @@ same-length-4 : tie.Need-same-length-4
 same-length-4 c = search needs
 
 returns : tie.Need-returns
-returns c = let h = failed-done c in
-    let f = reset-done (h .before .before .before .before .before) in
+returns c = let f = later-done c in
     let e = lost-done (f .before .before .before .before .before) in
-    let k = counted e in
-    let s = start k in
-    all-rows _ _ _ _ (s .pre .0) (k .lone-count .result) (k .lone-count .ensures .0) _ (s .pre .1) _ _ (e .write-part .ensures) _ _ (f .write-part2 .ensures) _ _ (h .write-groups .ensures)
+    let s = start e in
+    both-rows 0 _ (lost s) (later s) (two s) _ (from-first (all s) _ (s .pre .1)) _ _ (e .write-part .ensures) _ _ (f .write-later .ensures)
 
 pub write-all-spec : {M : Type 1} → statement M
 write-all-spec =
     tie.close
     (tie.spec
-    lone-count-requires
     write-part-requires
-    write-part-requires-2
-    write-groups-requires
+    write-later-requires
     same-length
     same-length-2
     same-length-3

@@ -1,9 +1,8 @@
 -- `inject::write_bytes` meets its contract. The invariant: the first `done` byte points are stored, up to `next`. Assumes nothing.
-use mathlib.Core.Path.{_≡_, refl, sym, ap, _∙_}
-use Prim.Native.Nat.{_+_, _*_, _-_, _≤_, _<_}
+use mathlib.Core.Path.{_≡_, sym}
+use Prim.Native.Nat.{_+_, _-_, _≤_}
 use native.Mathlib.Nat.{add-zero}
 use native.Mathlib.Omega.{arith}
-use lib.ListN.{length}
 use borrow.Author.Needs.{needs}
 use Rattle.inject.specs.Answers.{columnsOf}
 use Rattle.inject.specs.Steps.{steps, laidFrom, bytesAt, rows}

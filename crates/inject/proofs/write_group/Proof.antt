@@ -1,6 +1,6 @@
 -- `inject::write_group` meets its contract: none points, byte points and whole points, one part after the other. Assumes nothing.
 use borrow.Author.Needs.{needs}
-use Rattle.inject.proofs.Rows.{nones-room, bytes-room, wholes-room, group-rows, kept}
+use Rattle.inject.proofs.Rows.{nones-room, bytes-room, wholes-room, group-rows}
 use Rattle.inject.proofs.write_group.Statement.{statement}
 use Rattle.inject.proofs.write_group.Tie as tie
 

@@ -1,16 +1,15 @@
 -- `inject::write_groups` meets its contract. The invariant: the points from row `i` on, laid from `next` on what the columns hold, are the
 -- whole laid on what they held. Assumes nothing.
-use mathlib.Core.Path.{_≡_, refl, sym, ap, _∙_}
-use Prim.Native.Nat.{_+_, _-_, _≤_, _<_}
+use mathlib.Core.Path.{_≡_, refl, _∙_}
+use Prim.Native.Nat.{_-_, _≤_}
 use native.Mathlib.Omega.{arith}
 use lib.ListN.{length}
-use borrow.Author.Needs.{needs}
 use denote.Ref.{now}
 use Rattle.inject.specs.Ops.{opsOf}
 use Rattle.inject.specs.Points.{under}
 use Rattle.inject.specs.Answers.{columnsOf}
 use Rattle.inject.specs.Steps.{laidFrom}
-use Rattle.inject.proofs.Rests.{rest, rest-end}
+use Rattle.inject.proofs.Rests.{rest}
 use Rattle.inject.proofs.Walks.{walk-room, walk-more, walk-end}
 use Rattle.inject.proofs.Rows.{Kept, kept-all, kept, kept-trans}
 use Rattle.inject.proofs.write_groups.Statement.{statement}

@@ -1,18 +1,20 @@
--- `inject::write_part` meets its contract: the repeated point, and then the operations' points. Assumes nothing.
+-- `inject::write_part` meets its contract: the none point of operation 0, and then the operations' points. Assumes nothing.
 use mathlib.Core.List.{List}
 use lib.ListN.{replicate}
 use borrow.Author.Needs.{needs}
+use native.Mathlib.Omega.{arith}
 use denote.Ref.{now}
+use Rattle.inject.specs.declared.Progress.the-variants.{None}
 use Rattle.inject.specs.declared.Injection.{Injection}
 use Rattle.inject.specs.Ops.{opsOf}
-use Rattle.inject.specs.Points.{under}
+use Rattle.inject.specs.Points.{point, under}
 use Rattle.inject.proofs.Rows.{first-room, next-room, same-room, then-rows}
 use Rattle.inject.proofs.write_part.Statement.{statement}
 use Rattle.inject.proofs.write_part.Tie as tie
 
 -- the two parts
 abbrev same : tie.Start → List Injection
-same s = replicate (s .args .times) (s .args .injection)
+same s = replicate (s .args .times) (point 0 (s .args .cause) None)
 
 abbrev groups : tie.Start → List Injection
 groups s = under (s .args .geometry) (s .args .cause) 0 (opsOf (now (s .args .kinds)) (now (s .args .offsets)) (now (s .args .lens)))
@@ -28,12 +30,12 @@ abbrev start : tie.After-write-same → tie.Start
 start c = c .before .before .before .before .before .before .before .before .before .before .before .before
 
 write-same-requires : tie.Need-write-same-requires
-write-same-requires c κs = let s = c .before .before .before .before .before .before .before .before .before .before .before in (s .pre .0, same-room (s .args .at) (s .args .times) (s .args .injection) _ (first-room (s .args .at) (same s) (groups s) _ (s .pre .2)))
+write-same-requires c κs = let s = c .before .before .before .before .before .before .before .before .before .before .before in (omega arith, same-room (s .args .at) (s .args .times) (point 0 (s .args .cause) None) _ (first-room (s .args .at) (same s) (groups s) _ (s .pre .1)))
 
 write-groups-requires : tie.Need-write-groups-requires
 write-groups-requires c κs = let e = same-done (c .before .before .before .before) in
     let s = start e in
-    (s .pre .1, next-room (s .args .at) (same s) (groups s) _ (s .pre .2) _ _ (e .write-same .ensures))
+    (s .pre .0, next-room (s .args .at) (same s) (groups s) _ (s .pre .1) _ _ (e .write-same .ensures))
 
 same-length : tie.Need-same-length
 same-length c = search needs

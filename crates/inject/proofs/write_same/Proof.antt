@@ -1,10 +1,11 @@
 -- `inject::write_same` meets its contract. The invariant: `done` rows of the point are stored, up to `next`. Assumes nothing.
-use mathlib.Core.Path.{_≡_, refl, sym, ap, _∙_}
-use Prim.Native.Nat.{_+_, _-_, _≤_, _<_}
+use mathlib.Core.Path.{_≡_, sym}
+use Prim.Native.Nat.{_+_, _-_, _≤_}
 use native.Mathlib.Omega.{arith}
 use native.Mathlib.Nat.{add-zero}
-use lib.ListN.{length, replicate}
+use lib.ListN.{replicate}
 use borrow.Author.Needs.{needs}
+use Rattle.inject.specs.Points.{point}
 use Rattle.inject.specs.Answers.{columnsOf}
 use Rattle.inject.specs.Steps.{laidFrom, rows}
 use Rattle.inject.proofs.Rows.{no-rows, same-rows, kept, kept-room}
@@ -12,12 +13,12 @@ use Rattle.inject.proofs.write_same.Statement.{statement}
 use Rattle.inject.proofs.write_same.Tie as tie
 
 abbrev Inv-loop : tie.InvT-loop
-Inv-loop times injection at ops₀ progresses₀ counts₀ interruptions₀ next₀ done₀ ops progresses counts interruptions next done = (done ≤ times) × (next ≡ at + done)
+Inv-loop times progress op cause at ops₀ progresses₀ counts₀ interruptions₀ next₀ done₀ ops progresses counts interruptions next done = (done ≤ times) × (next ≡ at + done)
     × (rows next (columnsOf ops progresses counts interruptions)
-    ≡ laidFrom at (replicate done injection) (columnsOf ops₀ progresses₀ counts₀ interruptions₀))
+    ≡ laidFrom at (replicate done (point op cause progress)) (columnsOf ops₀ progresses₀ counts₀ interruptions₀))
 
 abbrev μ-loop : tie.MeasureT-loop
-μ-loop times injection at ops₀ progresses₀ counts₀ interruptions₀ next₀ done₀ ops progresses counts interruptions next done = times - done
+μ-loop times progress op cause at ops₀ progresses₀ counts₀ interruptions₀ next₀ done₀ ops progresses counts interruptions next done = times - done
 
 loop-holds : tie.Need-loop-holds Inv-loop μ-loop
 loop-holds c = (omega arith, sym (add-zero _), no-rows _ _)
