@@ -1,0 +1,99 @@
+-- The whole list, from its opening point through its four parts: what the public functions answer. Assumes nothing.
+use mathlib.Core.Path.{_≡_, refl, sym, ap, _∙_}
+use mathlib.Core.Bool.{true}
+use mathlib.Core.List.{List, [], _∷_, _++_, append-assoc}
+use Prim.Native.Nat.{ℕ, zero, suc, _+_}
+use native.Mathlib.Omega.{arith}
+use lib.ListN.{length, replicate, length-append, length-replicate}
+use borrow.Author.Tests.{eq-eqb, ne-eqb, lt-ltb, le-ltb}
+use Rattle.basics.specs.Tests.{unless, firstOf}
+use Rattle.storage.specs.declared.Geometry.{Geometry}
+use Rattle.inject.specs.declared.Interruption.the-variants.{PowerLoss, Watchdog, Failure}
+use Rattle.inject.specs.declared.Injection.{Injection}
+use Rattle.inject.specs.declared.Counted.the-variants.{Points, NotCounted}
+use Rattle.inject.specs.declared.Found.the-variants.{Point, NotFound}
+use Rattle.inject.specs.declared.Sought.{Sought}
+use Rattle.inject.specs.declared.Sought.the-variants.{At, Past}
+use Rattle.inject.specs.Ops.{opsOf}
+use Rattle.inject.specs.Points.{under, lone, opening, injectionsOf}
+use Rattle.inject.specs.Answers.{listTest, pointsOf, counted, found}
+use Rattle.inject.specs.Steps.{Sound, lonePoint, loneFor, partOf, laterOf, sought, onward}
+use Rattle.inject.proofs.Searches.{onward-next, sought-at, sought-beyond}
+
+-- ---- the point that only an empty list has
+
+pub no-lone : (n : ℕ) → (n ≡ 0 → ⊥) → [] ≡ loneFor n
+no-lone zero h = absurd (h refl)
+no-lone (suc n) h = refl
+
+pub lone-for : (ks os ls : List ℕ) → length ks ≡ length os → length ks ≡ length ls → lone (opsOf ks os ls) ≡ loneFor (length ks)
+unfolding lone opsOf
+lone-for [] os ls h k = refl
+lone-for (a ∷ ks) [] ls h k = absurd (omega arith)
+lone-for (a ∷ ks) (b ∷ os) [] h k = absurd (omega arith)
+lone-for (a ∷ ks) (b ∷ os) (d ∷ ls) h k = refl
+
+pub later-in-two : (g : Geometry) (ks os ls : List ℕ) (times : ℕ) → replicate times lonePoint ≡ loneFor (length ks)
+    → laterOf g ks os ls ≡ partOf times Watchdog g ks os ls ++ under g Failure 0 (opsOf ks os ls)
+later-in-two g ks os ls times e = rw e (sym (append-assoc (loneFor (length ks)) _ _))
+
+-- ---- a sound list's points, part by part
+
+module _ (g : Geometry) (ks os ls : List ℕ) (s : Sound g ks os ls) where
+  pub parts : pointsOf g ks os ls
+      ≡ opening
+      ∷ (under g PowerLoss 0 (opsOf ks os ls)
+      ++ (loneFor (length ks) ++ (under g Watchdog 0 (opsOf ks os ls) ++ under g Failure 0 (opsOf ks os ls))))
+  unfolding injectionsOf
+  parts = rw (lone-for ks os ls (s .offsets-equal) (s .lens-equal))
+
+  pub whole-count : (a b d e : ℕ) → a ≡ length (under g PowerLoss 0 (opsOf ks os ls)) → replicate b lonePoint ≡ loneFor (length ks)
+      → d ≡ length (under g Watchdog 0 (opsOf ks os ls)) → e ≡ length (under g Failure 0 (opsOf ks os ls))
+      → 1 + a + b + d + e ≡ length (pointsOf g ks os ls)
+  whole-count a b d e x y z w =
+      let alone : b ≡ length (loneFor (length ks)) = sym (length-replicate b lonePoint) ∙ ap length y in
+      sym (ap length parts ∙ simp (length-append) (omega arith))
+
+  -- the same, as the parts are written
+  pub in-two : pointsOf g ks os ls ≡ partOf 1 PowerLoss g ks os ls ++ laterOf g ks os ls
+  in-two = parts
+
+  -- five searches, one after the other
+  pub whole-search : (n : ℕ) (a b d e f : Sought) → a ≡ onward (Past n) (opening ∷ []) → b ≡ onward a (under g PowerLoss 0 (opsOf ks os ls))
+      → d ≡ onward b (loneFor (length ks)) → e ≡ onward d (under g Watchdog 0 (opsOf ks os ls))
+      → f ≡ onward e (under g Failure 0 (opsOf ks os ls)) → sought (pointsOf g ks os ls) n ≡ f
+  whole-search n a b d e f p q r t u =
+      let lost = under g PowerLoss 0 (opsOf ks os ls) in
+      let alone = loneFor (length ks) in
+      let reset = under g Watchdog 0 (opsOf ks os ls) in
+      let failed = under g Failure 0 (opsOf ks os ls) in
+      ap (λ (xs : List Injection). sought xs n) parts
+      ∙ onward-next (Past n) a (opening ∷ []) (lost ++ (alone ++ (reset ++ failed))) p
+      ∙ onward-next a b lost (alone ++ (reset ++ failed)) q
+      ∙ onward-next b d alone (reset ++ failed) r
+      ∙ onward-next d e reset failed t
+      ∙ sym u
+
+-- ---- what is answered
+
+module _ (g : Geometry) (ks os ls : List ℕ) (number : ℕ) (told : number ≡ listTest g ks os ls true) where
+  pub count-refused : (number ≡ 0 → ⊥) → NotCounted number ≡ counted g ks os ls
+  count-refused h = rw (← told, ne-eqb number 0 h)
+
+  pub count-taken : (count : ℕ) → number ≡ 0 → count ≡ length (pointsOf g ks os ls) → Points count ≡ counted g ks os ls
+  count-taken count z e = rw (← told, eq-eqb number 0 z, ← e)
+
+  module _ (place : ℕ) where
+    pub place-refused : (number ≡ 0 → ⊥) → NotFound number ≡ found g ks os ls place
+    unfolding firstOf
+    place-refused h = simp (sym told, ne-eqb number 0 h)
+
+    pub place-found : (p : Injection) → number ≡ 0 → sought (pointsOf g ks os ls) place ≡ At p → Point p ≡ found g ks os ls place
+    unfolding firstOf unless
+    place-found p z e =
+        let at = sought-at (pointsOf g ks os ls) place p opening e in
+        simp (sym told, eq-eqb number 0 z, lt-ltb _ _ (at .0), at .1)
+
+    pub place-past : (m : ℕ) → number ≡ 0 → sought (pointsOf g ks os ls) place ≡ Past m → NotFound 11 ≡ found g ks os ls place
+    unfolding firstOf unless
+    place-past m z e = simp (sym told, eq-eqb number 0 z, le-ltb _ _ (sought-beyond (pointsOf g ks os ls) place m e))

@@ -1,0 +1,94 @@
+-- `inject::write_groups` meets its contract. The invariant: the points from row `i` on, laid from `next` on what the columns hold, are the
+-- whole laid on what they held. Assumes nothing.
+use mathlib.Core.Path.{_≡_, refl, _∙_}
+use Prim.Native.Nat.{_-_, _≤_}
+use native.Mathlib.Omega.{arith}
+use lib.ListN.{length}
+use denote.Ref.{now}
+use Rattle.inject.specs.Ops.{opsOf}
+use Rattle.inject.specs.Points.{under}
+use Rattle.inject.specs.Answers.{columnsOf}
+use Rattle.inject.specs.Steps.{laidFrom}
+use Rattle.inject.proofs.Rests.{rest}
+use Rattle.inject.proofs.Walks.{walk-room, walk-more, walk-end}
+use Rattle.inject.proofs.Rows.{Kept, kept-all, kept, kept-trans}
+use Rattle.inject.proofs.write_groups.Statement.{statement}
+use Rattle.inject.proofs.write_groups.Tie as tie
+
+abbrev Inv-loop : tie.InvT-loop
+Inv-loop kinds offsets lens geometry cause at ops₀ progresses₀ counts₀ interruptions₀ next₀ i₀ ops progresses counts interruptions next i = (i ≤ length kinds)
+    × Kept (columnsOf ops₀ progresses₀ counts₀ interruptions₀) (columnsOf ops progresses counts interruptions)
+    × (laidFrom next (rest geometry cause i kinds offsets lens) (columnsOf ops progresses counts interruptions)
+    ≡ laidFrom at (under geometry cause 0 (opsOf kinds offsets lens)) (columnsOf ops₀ progresses₀ counts₀ interruptions₀))
+
+abbrev μ-loop : tie.MeasureT-loop
+μ-loop kinds offsets lens geometry cause at ops₀ progresses₀ counts₀ interruptions₀ next₀ i₀ ops progresses counts interruptions next i = length kinds - i
+
+loop-holds : tie.Need-loop-holds Inv-loop μ-loop
+loop-holds c = (omega arith, kept-all _, refl)
+
+group-at-requires : tie.Need-group-at-requires Inv-loop μ-loop
+group-at-requires c κs = (c .before .before .before .before .before .before .before .before .before .pre .0, c .loop-test .taken)
+
+write-group-requires : tie.Need-write-group-requires Inv-loop μ-loop
+write-group-requires c κs = let s = c .before .before .before .before .before .before .before .before .before .before .before .before .before .before in
+    let l = c .before .before .before .before .before .before .loop in
+    let g = c .before .before .before .before .group-at in (
+      omega (arith, s .pre .0 .few),
+      g .ensures .small,
+      walk-room (s .args .geometry) (s .args .cause) (now (s .args .kinds)) (now (s .args .offsets)) (now (s .args .lens)) (s .pre .0) (l .i) (c .before .before .before .before .before .loop-test .taken) (g .result) (g .ensures)
+          _ _ (s .pre .1) _ _ (l .inv .1) (l .inv .2),
+    )
+
+add-i : tie.Need-add-i Inv-loop μ-loop
+add-i c = omega arith
+
+loop-less : tie.Need-loop-less Inv-loop μ-loop
+loop-less c = omega arith
+
+loop-again : tie.Need-loop-again Inv-loop μ-loop
+loop-again c = let e = c .before .before .before .before .before .before .before .before in
+    let s = e .before .before .before .before .before .before .before .before .before .before .before .before .before .before .before in
+    let l = e .before .before .before .before .before .before .before .loop in
+    let g = e .before .before .before .before .before .group-at in (
+      omega arith,
+      kept-trans _ _ _ (l .inv .1) (kept _ _ _ _ _ (e .write-group .ensures)),
+      walk-more (s .args .geometry) (s .args .cause) (now (s .args .kinds)) (now (s .args .offsets)) (now (s .args .lens)) (s .pre .0) (l .i) (e .before .before .before .before .before .before .loop-test .taken) (g .result) (g .ensures)
+          _ _ _ _ (e .write-group .ensures)
+          ∙ l .inv .2,
+    )
+
+same-length : tie.Need-same-length Inv-loop μ-loop
+same-length c = c .before .loop .inv .1 .ops
+
+same-length-2 : tie.Need-same-length-2 Inv-loop μ-loop
+same-length-2 c = c .before .loop .inv .1 .progresses
+
+same-length-3 : tie.Need-same-length-3 Inv-loop μ-loop
+same-length-3 c = c .before .loop .inv .1 .counts
+
+same-length-4 : tie.Need-same-length-4 Inv-loop μ-loop
+same-length-4 c = c .before .loop .inv .1 .interruptions
+
+returns : tie.Need-returns Inv-loop μ-loop
+returns c = let s = c .before .before .before .before .before .before .before .before .before in
+    let l = c .before .loop in
+    walk-end (s .args .geometry) (s .args .cause) (l .i) (now (s .args .kinds)) (now (s .args .offsets)) (now (s .args .lens)) (c .loop-test .left) _ _ ∙ l .inv .2
+
+pub write-groups-spec : {M : Type 1} → statement M
+write-groups-spec =
+    tie.close
+    (tie.spec
+    Inv-loop
+    μ-loop
+    loop-holds
+    group-at-requires
+    write-group-requires
+    add-i
+    loop-less
+    loop-again
+    same-length
+    same-length-2
+    same-length-3
+    same-length-4
+    returns)
