@@ -2,6 +2,7 @@
 //! its place, and all of them in lent columns.
 
 use crate::common::{self, Comparison, Difference, Input, Layer, Random, bench_row, smaller_numbers};
+use std::cell::RefCell;
 use std::hint::black_box;
 use waymaker_fault::inject::{Injection, Interruption, Op, Progress, injections};
 use waymaker_flash::storage::{Geometry, GeometryError};
@@ -622,69 +623,77 @@ fn faulty_case(random: &mut Random) -> Case {
     case
 }
 
+/// So many times the same call, for one that takes microseconds.
+const TIMES: usize = 64;
+
+fn repeated(call: impl Fn() -> u64) -> u64 {
+    (0..TIMES).map(|_| call()).sum()
+}
+
 fn bench(random: &mut Random) {
-    // A journal's list: programs, erases and barriers in turn, on a device of 4,096-byte blocks.
+    // Programs, a barrier and an erase in turn, on a device of 4,096-byte blocks.
     let units = [3 << 20, 1 << 12, 1 << 8, 1 << 2];
     let geometry = geometry_of(units).expect("units that nest");
     let turn = [(PROGRAM, 0, 256), (PROGRAM, 256, 64), (BARRIER, 0, 0), (ERASE, 4096, 8192)];
     let rows: Vec<Row> = turn.into_iter().cycle().take(MOST).collect();
     let case = Case::new(units, &rows, 0);
     let ops = ops_of(&case);
+    let our_length = || {
+        let mut points = 0;
+        our_count(&case, &mut points);
+        points
+    };
     bench_row(
         "inject: count, 1,024 operations",
-        1,
-        || injections(&ops, geometry).len() as u64,
-        || {
-            let mut points = 0;
-            our_count(&case, &mut points);
-            points
-        },
+        TIMES,
+        || repeated(|| injections(&ops, geometry).len() as u64),
+        || repeated(our_length),
     );
     let end = formula(&case) as u32;
-    let places: Vec<u64> = (0..16).map(|_| u64::from(random.below(end))).collect();
-    let our_sum = || {
-        let sum = places.iter().map(|&place| {
-            let mut point = [0; 4];
-            our_point(&case, place, &mut point);
-            point.iter().sum::<u64>()
-        });
-        sum.sum()
+    let places: Vec<u64> = (0..TIMES).map(|_| u64::from(random.below(end))).collect();
+    let sum_of = |point: &dyn Fn(u64) -> [u64; 4]| places.iter().flat_map(|&place| point(place)).sum::<u64>();
+    let our_lookup = |place| {
+        let mut point = [0; 4];
+        our_point(&case, place, &mut point);
+        point
     };
+    let rust_lookup = |place| row_of(injections(&ops, geometry).into_iter().nth(place as usize).expect("a point"));
     bench_row(
         "inject: point by place, 1,024 operations",
         places.len(),
-        || {
-            let sum = places.iter().map(|&place| {
-                let point =
-                    injections(&ops, geometry).into_iter().nth(place as usize).expect("a place below the count");
-                row_of(point).iter().sum::<u64>()
-            });
-            sum.sum()
-        },
-        our_sum,
+        || sum_of(&rust_lookup),
+        || sum_of(&our_lookup),
     );
     // What a caller who asks again and again pays for keeping no list.
     let listed = injections(&ops, geometry);
     bench_row(
         "inject: the same, a Rust list made before",
         places.len(),
-        || places.iter().map(|&place| row_of(black_box(&listed)[place as usize]).iter().sum::<u64>()).sum(),
-        our_sum,
+        || sum_of(&|place| row_of(listed[place as usize])),
+        || sum_of(&our_lookup),
     );
     let case = Case::new(units, &[(PROGRAM, 0, 4096)], 0);
     let ops = ops_of(&case);
-    let rust_sum = || black_box(injections(&ops, geometry)).len() as u64;
-    let written = |columns: &mut Columns| {
+    let rust_list = || black_box(injections(&ops, geometry)).len() as u64;
+    let our_list = |columns: &mut Columns| {
         let mut rows = 0;
         our_points(&case, columns, &mut rows);
         black_box(columns);
         rows as u64
     };
-    let columns = std::cell::RefCell::new(unwritten_columns(case.lent));
-    bench_row("inject: all points of a 4,096-byte program", 1, rust_sum, || written(&mut columns.borrow_mut()));
-    bench_row("inject: the same, columns made for each call", 1, rust_sum, || {
-        written(&mut unwritten_columns(case.lent))
-    });
+    let lent = RefCell::new(unwritten_columns(case.lent));
+    bench_row(
+        "inject: all points of a 4,096-byte program",
+        TIMES,
+        || repeated(rust_list),
+        || repeated(|| our_list(&mut lent.borrow_mut())),
+    );
+    bench_row(
+        "inject: the same, columns made for each call",
+        TIMES,
+        || repeated(rust_list),
+        || repeated(|| our_list(&mut unwritten_columns(case.lent))),
+    );
 }
 
 // The sample that crates/inject_cases replays: the same tables and the same order as in its src/main.rt.
