@@ -3,29 +3,29 @@
 ghost use mathlib.Core.Path.{_≡_};
 ghost use lib.ListN.{set};
 
-// Stores `value` at `at` in a column of bytes. Past the column's end nothing is stored, and nothing changes.
-pub fn store_u8(column: &mut [u8], at: usize, value: u8)
-    ensures { λ _. ⌜ now (column .exit) ≡ set (now (column .entry)) at value ⌝ }
+// Stores `byte` at `at` in a column of bytes. Past the column's end nothing is stored, and nothing changes.
+pub fn store_u8(bytes: &mut [u8], at: usize, byte: u8)
+    ensures { λ _. ⌜ now (bytes .exit) ≡ set (now (bytes .entry)) at byte ⌝ }
 {
-    if at < column.len() {
-        column[at] = value;
+    if at < bytes.len() {
+        bytes[at] = byte;
     }
 }
 
-// Stores `value` at `at` in a column of u32. Past the column's end nothing is stored, and nothing changes.
-pub fn store_u32(column: &mut [u32], at: usize, value: u32)
-    ensures { λ _. ⌜ now (column .exit) ≡ set (now (column .entry)) at value ⌝ }
+// Stores `word` at `at` in a column of u32. Past the column's end nothing is stored, and nothing changes.
+pub fn store_u32(words: &mut [u32], at: usize, word: u32)
+    ensures { λ _. ⌜ now (words .exit) ≡ set (now (words .entry)) at word ⌝ }
 {
-    if at < column.len() {
-        column[at] = value;
+    if at < words.len() {
+        words[at] = word;
     }
 }
 
-// Stores `value` at `at` in a column of u64. Past the column's end nothing is stored, and nothing changes.
-pub fn store_u64(column: &mut [u64], at: usize, value: u64)
-    ensures { λ _. ⌜ now (column .exit) ≡ set (now (column .entry)) at value ⌝ }
+// Stores `long` at `at` in a column of u64. Past the column's end nothing is stored, and nothing changes.
+pub fn store_u64(longs: &mut [u64], at: usize, long: u64)
+    ensures { λ _. ⌜ now (longs .exit) ≡ set (now (longs .entry)) at long ⌝ }
 {
-    if at < column.len() {
-        column[at] = value;
+    if at < longs.len() {
+        longs[at] = long;
     }
 }

@@ -3,3 +3,4 @@ pub mod Powers
 pub mod Numbers
 pub mod Checks
 pub mod Spans
+pub mod Nesting

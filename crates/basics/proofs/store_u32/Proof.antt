@@ -5,11 +5,11 @@ use borrow.Author.Needs.{needs}
 use Rattle.basics.proofs.store_u32.Statement.{statement}
 use Rattle.basics.proofs.store_u32.Tie as tie
 
-mul-column : tie.Need-mul-column
-mul-column c = search needs
+mul-words : tie.Need-mul-words
+mul-words c = search needs
 
-slice-write-column : tie.Need-slice-write-column
-slice-write-column c = search needs
+slice-write-words : tie.Need-slice-write-words
+slice-write-words c = search needs
 
 same-length : tie.Need-same-length
 same-length c = search needs
@@ -21,4 +21,4 @@ returns-2 : tie.Need-returns-2
 returns-2 c = sym (set-out _ _ _ (c .if1 .left))
 
 pub store-u32-spec : {M : Type 1} → statement M
-store-u32-spec = tie.close (tie.spec mul-column slice-write-column same-length returns returns-2)
+store-u32-spec = tie.close (tie.spec mul-words slice-write-words same-length returns returns-2)

@@ -5,11 +5,11 @@ use borrow.Author.Needs.{needs}
 use Rattle.basics.proofs.store_u64.Statement.{statement}
 use Rattle.basics.proofs.store_u64.Tie as tie
 
-mul-column : tie.Need-mul-column
-mul-column c = search needs
+mul-longs : tie.Need-mul-longs
+mul-longs c = search needs
 
-slice-write-column : tie.Need-slice-write-column
-slice-write-column c = search needs
+slice-write-longs : tie.Need-slice-write-longs
+slice-write-longs c = search needs
 
 same-length : tie.Need-same-length
 same-length c = search needs
@@ -21,4 +21,4 @@ returns-2 : tie.Need-returns-2
 returns-2 c = sym (set-out _ _ _ (c .if1 .left))
 
 pub store-u64-spec : {M : Type 1} → statement M
-store-u64-spec = tie.close (tie.spec mul-column slice-write-column same-length returns returns-2)
+store-u64-spec = tie.close (tie.spec mul-longs slice-write-longs same-length returns returns-2)

@@ -5,8 +5,8 @@ use borrow.Author.Needs.{needs}
 use Rattle.basics.proofs.store_u8.Statement.{statement}
 use Rattle.basics.proofs.store_u8.Tie as tie
 
-slice-write-column : tie.Need-slice-write-column
-slice-write-column c = search needs
+slice-write-bytes : tie.Need-slice-write-bytes
+slice-write-bytes c = search needs
 
 same-length : tie.Need-same-length
 same-length c = search needs
@@ -18,4 +18,4 @@ returns-2 : tie.Need-returns-2
 returns-2 c = sym (set-out _ _ _ (c .if1 .left))
 
 pub store-u8-spec : {M : Type 1} → statement M
-store-u8-spec = tie.close (tie.spec slice-write-column same-length returns returns-2)
+store-u8-spec = tie.close (tie.spec slice-write-bytes same-length returns returns-2)

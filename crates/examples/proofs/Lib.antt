@@ -1,0 +1,2 @@
+-- The fixed examples, proved.
+pub mod Fixed

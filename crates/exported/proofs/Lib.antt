@@ -1,0 +1,2 @@
+-- Laws that the exported functions' proofs cite, a file for each layer.
+pub mod StorageNumbers
