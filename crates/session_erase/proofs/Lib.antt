@@ -1,0 +1,2 @@
+-- Laws of the erase's definition.
+pub mod Calls
