@@ -1,0 +1,4 @@
+-- Laws of the program's definition.
+pub mod Refusals
+pub mod Landings
+pub mod Calls
