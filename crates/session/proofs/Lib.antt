@@ -2,3 +2,4 @@
 pub mod Refusals
 pub mod Calls
 pub mod Fetches
+pub mod Laws

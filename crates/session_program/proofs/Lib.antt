@@ -2,3 +2,4 @@
 pub mod Refusals
 pub mod Landings
 pub mod Calls
+pub mod Laws
