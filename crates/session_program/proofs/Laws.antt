@@ -1,6 +1,6 @@
 -- What a program means, for whoever reasons about whole lists of calls.
---     program-refuses, program-takes    a refused erase changes nothing; a taken one lands and is recorded at the count
---     program-stopped                 a stopped session takes no erase, so that it stays stopped as it was
+--     program-refuses, program-takes    a refused program changes nothing; a taken one lands and is recorded at the count
+--     program-stopped                 a stopped session takes no program, so that it stays stopped as it was
 --     program-counts                  a taken one adds one to the count
 --     unarmed-program                 with nothing armed it lands whole, answers 0, and the session runs on
 --     program-outside                 the media outside its span are untouched, refused or taken, cut or not
