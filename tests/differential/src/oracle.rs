@@ -188,6 +188,14 @@ impl common::Answer for Verdict {
     }
 }
 
+fn code_of(state: Durability) -> u64 {
+    match state {
+        Durability::Attempted => 0,
+        Durability::PossiblyDurable => 1,
+        Durability::Acknowledged => 2,
+    }
+}
+
 fn one(number: u64, value: u64) -> Cells {
     [number, 1, value, 0, 0, 0, 0]
 }
@@ -341,7 +349,7 @@ fn rust_answers(question: &Question) -> Answers {
         return Answers { state: refused, torn: refused, committed: left(), acknowledged: left(), len: refused };
     };
     Answers {
-        state: ledger.state(RecordId(id)).map_or([0, 0, 0], |state| [0, 1, state as u64]),
+        state: ledger.state(RecordId(id)).map_or([0, 0, 0], |state| [0, 1, code_of(state)]),
         torn: ledger.torn(RecordId(id)).map_or([0, 0, 0], |torn| [0, 1, torn.into()]),
         committed: written(ledger.committed(), room),
         acknowledged: written(ledger.acknowledged(), room),
@@ -627,7 +635,7 @@ fn bench(random: &mut Random) {
         let recovery = Recovery::new(&history).dispatched(&intents).authoritative_banks(1);
         let sum = |cells: Cells| cells.iter().sum::<u64>();
         bench_row(
-            &format!("oracle: {len} entries, {dispatched} dispatched"),
+            &format!("oracle: {len} recovered of {len}, {dispatched} dispatched"),
             times,
             || (0..times).map(|_| sum(cells_of(verify_oracle(std::hint::black_box(&ledger), &recovery)))).sum(),
             || (0..times).map(|_| sum(our_cells(std::hint::black_box(&case)))).sum(),
@@ -689,7 +697,7 @@ fn ledger_line(text: &mut String, columns: &Columns) {
     field(text, " C", ledger.committed().map(|id| Some(id.0)));
     field(text, " A", ledger.acknowledged().map(|id| Some(id.0)));
     for id in RECORDS {
-        let state = ledger.state(RecordId(id)).map(|state| state as u64);
+        let state = ledger.state(RecordId(id)).map(code_of);
         field(text, " R", [state, ledger.torn(RecordId(id)).map(u64::from)]);
     }
     text.push('\n');
