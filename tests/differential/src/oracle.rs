@@ -482,8 +482,7 @@ fn at_blocks(comparison: &mut Comparison) -> Result<(), Difference> {
     Ok(())
 }
 
-/// Columns that hold no ledger: every three lengths up to 3 that are not one, and every code without a meaning at each row
-/// of up to 3.
+/// Mostly columns that hold no ledger: every three lengths up to 3, and in up to 3 rows at each row every code from 2 on.
 fn bad_columns(comparison: &mut Comparison) -> Result<(), Difference> {
     let mut bad = Vec::new();
     for place in 0..4 * 4 * 4 {
