@@ -12,7 +12,7 @@ use lib.ListN.{length}
 use lib.Dec.{eqb, ltb, leb}
 use borrow.Author.Tests.{eq-eqb, ne-eqb, le-leb, lt-leb, ltb-true, ltb-false}
 use Rattle.text.specs.Numbers.{largest, isDigit, allDigits, valueFrom, valueOf, zeroLed, isNumber, Decimal, number, none, numberOf, decimalIn, decimalOf}
-use Rattle.text.specs.Pairs.{isLetter, isHex, allHex, isPairs, hexOf, pairValues, hexDigit, pairsText}
+use Rattle.text.specs.Pairs.{isLetter, isHex, allHex, isPairs, hexOf, pairValues, AllBytes, hexDigit, pairsText}
 use Rattle.text.proofs.Plain.{Plain, digits-plain, hex-plain}
 use Rattle.text.proofs.Numbers.{digit-is, not-led}
 use Rattle.text.proofs.Decimals.{tens}
@@ -122,10 +122,6 @@ decimal-read n h =
     some (decimalOf n) n (p .digits) (p .unled) (p .value) h (filled n l)
 
 -- ---- bytes as pairs
-
-abbrev pub AllBytes : List ℕ → Type 0
-AllBytes [] = Unit {0}
-AllBytes (b ∷ bs) = (b < 256) × AllBytes bs
 
 nibble-hex : (t : Bool) (d : ℕ) → ltb d 10 ≡ t → d < 16 → isHex (cond t (48 + d) (87 + d)) ≡ true
 unfolding isHex isDigit isLetter

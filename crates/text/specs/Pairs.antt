@@ -2,7 +2,7 @@
 -- Definitions only; assumes nothing.
 use mathlib.Core.Bool.{Bool, true, false, cond, _&&_, _||_}
 use mathlib.Core.List.{List, [], _∷_, _++_}
-use Prim.Native.Nat.{ℕ, _+_, _-_, _*_, _/_, _%_}
+use Prim.Native.Nat.{ℕ, _+_, _-_, _*_, _/_, _%_, _<_}
 use lib.ListN.{length, take, drop}
 use lib.Dec.{eqb, leb, ltb}
 use Rattle.text.specs.declared.Pairs.{Pairs}
@@ -48,6 +48,11 @@ over new old = new ++ drop (length new) old
 -- the bytes that the pairs from a place of a text on stand for, stored from the front of a buffer on: as many as it holds
 abbrev pub decoded : (text : List ℕ) (from : ℕ) → List ℕ → List ℕ
 decoded text from out = over (take (length out) (pairValues (drop from text))) out
+
+-- numbers that are bytes
+abbrev pub AllBytes : List ℕ → Type 0
+AllBytes [] = Unit {0}
+AllBytes (b ∷ bs) = (b < 256) × AllBytes bs
 
 -- a half of a byte as a digit
 abbrev pub hexDigit : ℕ → ℕ
