@@ -7,3 +7,6 @@ pub mod Passes
 pub mod Enough
 pub mod Fills
 pub mod Rooms
+pub mod Kept
+pub mod RoundTrip
+pub mod Examples

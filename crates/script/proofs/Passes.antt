@@ -27,7 +27,7 @@ use Rattle.script.proofs.Cells.{Split, cells-split, cells-broken}
 
 -- ---- one line among the lines
 
-line-by : (n : ℕ) (l : TextLine) (ls : List TextLine) (m : Meaning) → meaningOf l ≡ m → readLines n (l ∷ ls) ≡ onMeaning m n (readLines (n + 1) ls)
+pub line-by : (n : ℕ) (l : TextLine) (ls : List TextLine) (m : Meaning) → meaningOf l ≡ m → readLines n (l ∷ ls) ≡ onMeaning m n (readLines (n + 1) ls)
 unfolding readLines
 line-by n l ls m e = rw e
 

@@ -149,5 +149,18 @@ module _ (s : List ℕ) (r : Whole) where
             let i : Read h n b ≡ Read h (length (w .cs)) (length (bytesOf (w .cs))) = ap₂ (Read h) (w .count) (w .size) in
             rw (w .is, test, eq-eqb m 0 z, ← g, ← i)
 
+-- ---- columns that are long enough
+
+-- columns of 32,768 rows and a pool of 32,768 bytes are never refused with 12 or 13
+pub never-short : (s : List ℕ) (h : Head) (cs : List Call) (kinds firsts seconds thirds starts pool : List ℕ) → scriptOf s ≡ script h cs
+    → length kinds ≡ 32768 → length firsts ≡ 32768 → length seconds ≡ 32768 → length thirds ≡ 32768 → length starts ≡ 32768 → length pool ≡ 32768
+    → readInto s (columns kinds firsts seconds thirds starts pool) ≡ after (Read h (length cs) (length (bytesOf cs))) (written cs (columns kinds firsts seconds thirds starts pool))
+unfolding readInto roomFor firstOf unless
+never-short s h cs kinds firsts seconds thirds starts pool e k a b c t p =
+    let n = enough s h cs e in
+    let x : length cs ≤ 32768 = n .rows in
+    let y : length (bytesOf cs) ≤ 32768 = n .bytes in
+    simp (e, k, a, b, c, t, p, le-leb _ _ x, le-leb _ _ y)
+
 -- all of them, for `search (needs, rooms)`
 pub ruleset rooms = (room-unequal, room-short, room-enough, count-bad, count-good, read-bad, read-no-room, read-ready, read-done)
