@@ -6,10 +6,10 @@ use mathlib.Core.List.{List, [], _∷_, _++_, append-nil, append-assoc, map}
 use Prim.Native.Nat.{ℕ, zero, suc, _+_, _-_, _*_, _≤_, _<_}
 use native.Mathlib.Nat.{not-suc-le-zero, le-of-suc-le-suc, zero-add}
 use native.Mathlib.Omega.{arith}
-use lib.ListN.{length, set, take, drop, length-append, length-map, length-set, length-drop, drop-of-length-le}
+use lib.ListN.{length, set, take, drop, length-append, length-map, length-set, length-take, length-drop, drop-of-length-le, take-append-drop}
 use lib.Seq.{take-at, drop-append-add, drop-drop, length-take-le, drop-length, take-length}
 use borrow.Rule.Slice.PartMut.{putMid}
-use Rattle.basics.specs.Parts.{overlaid}
+use Rattle.basics.specs.Parts.{part, overlaid}
 use Rattle.basics.proofs.Parts.{part-back}
 use Rattle.text.specs.Lines.{linesOf}
 use Rattle.text.specs.Pairs.{pairValues, over, decoded}
@@ -17,7 +17,7 @@ use Rattle.script.specs.declared.Line.{Line}
 use Rattle.script.specs.declared.Line.the-variants.{Row, Faulty}
 use Rattle.script.specs.Calls.{Call, malformed, Reading, calls, faulty, callThen, readLines}
 use Rattle.script.specs.Columns.{Columns, columns, kindOf, firstIn, secondIn, thirdIn, bytesIn, startsOf, bytesOf, written}
-use Rattle.script.specs.Inner.{cellsOf, meaningIn, Taken, Reads, Ready, callsRead}
+use Rattle.script.specs.Inner.{cellsOf, meaningIn, Taken, Reads, Ready, callsRead, stored}
 use Rattle.script.proofs.Passes.{line-faulty, line-taken, no-lines, row-taken}
 
 -- ---- a list with its front replaced, one element or some more
@@ -40,6 +40,26 @@ over-pool bs b old u e =
     let t : take (length bs) (bs ++ drop (length bs) old) ≡ bs = take-at bs (drop (length bs) old) (length bs) refl in
     let d : drop (length bs + length b) (bs ++ drop (length bs) old) ≡ drop (length bs + length b) old = drop-append-add bs (drop (length bs) old) (length b) ∙ drop-drop (length b) (length bs) old in
     rw (e, t, d) (sym (append-assoc bs b (drop (length bs + length b) old)) ∙ ap (λ (n : ℕ). (bs ++ b) ++ drop n old) (sym (length-append bs b)))
+
+-- ---- a line's bytes over a part of the pool
+
+pub store-none : (s : List ℕ) (start : ℕ) (pool : List ℕ) (used free : ℕ) → free ≡ used → pool ≡ stored s start pool used free
+unfolding overlaid part
+store-none s start pool used free e =
+    let z : free - used ≡ 0 = omega arith in
+    let o : used + 0 ≡ used = omega arith in
+    sym (rw (z, o) (take-append-drop used pool))
+
+pub store-some : (s : List ℕ) (start : ℕ) (pool : List ℕ) (used free : ℕ) → used ≤ free → free ≤ length pool
+    → (new : List ℕ) → new ≡ decoded s start (take (free - used) (drop used pool)) → putMid used (free - used) pool new ≡ stored s start pool used free
+unfolding part
+store-some s start pool used free h k new e =
+    let n : used + (free - used) ≡ free = omega arith in
+    let m : used + (free - used) - used ≡ free - used = omega arith in
+    let g : length (take (free - used) (drop used pool)) ≡ free - used = length-take-le (free - used) (drop used pool) (rw length-drop (omega arith)) in
+    let l : length new ≡ free - used = ap length e ∙ over-long (take (length (take (free - used) (drop used pool))) (pairValues (drop start s))) (take (free - used) (drop used pool)) (rw length-take (omega arith)) ∙ g in
+    let b : putMid used (used + (free - used) - used) pool new ≡ overlaid pool used new = part-back pool used (free - used) (omega arith) new l in
+    rw m at b ∙ ap (overlaid pool used) e
 
 -- ---- one call more
 
@@ -179,27 +199,31 @@ module _ (s : List ℕ) (from : ℕ) (cs : List Call) (k₀ k : Columns) (at i u
             few = omega (arith, ready .few);
           }
 
-      -- the bytes as `decode` leaves them in the part that was lent
-      module _ (part new : List ℕ) (p : part ≡ take (used + size - used) (drop used (k .pool))) (d : new ≡ decoded s start part) where
-        part-long : length part ≡ size
-        part-long =
+      -- the bytes as `store_bytes` leaves them
+      module _ (pool : List ℕ) (d : pool ≡ stored s start (k .pool) used (used + size)) where
+        there : List ℕ
+        there = part (k .pool) used (used + size - used)
+
+        there-long : length there ≡ size
+        unfolding there part
+        there-long =
             let y = inside in
             let z = l .pool in
             let o = ready .pool in
             let f : used + size - used ≡ size = omega arith in
             let g : size ≤ length (drop used (k .pool)) = rw length-drop (omega arith) in
-            ap length (p ∙ ap (λ (m : ℕ). take m (drop used (k .pool))) f) ∙ length-take-le size (drop used (k .pool)) g
+            ap (λ (m : ℕ). length (take m (drop used (k .pool)))) f ∙ length-take-le size (drop used (k .pool)) g
 
-        bytes-are : new ≡ bytesIn (t .it)
+        bytes-are : decoded s start there ≡ bytesIn (t .it)
         bytes-are =
-            let e : take (length part) (pairValues (drop start s)) ≡ bytesIn (t .it) = ap (λ (m : ℕ). take m (pairValues (drop start s))) part-long ∙ sym (t .bytes) in
-            let f : length (bytesIn (t .it)) ≡ length part = sym (t .size-is) ∙ sym part-long in
-            let g : drop (length (bytesIn (t .it))) part ≡ [] = ap (λ (m : ℕ). drop m part) f ∙ drop-length part in
-            d ∙ ap (λ (x : List ℕ). over x part) e ∙ ap (λ (x : List ℕ). bytesIn (t .it) ++ x) g ∙ append-nil (bytesIn (t .it))
+            let e : take (length there) (pairValues (drop start s)) ≡ bytesIn (t .it) = ap (λ (m : ℕ). take m (pairValues (drop start s))) there-long ∙ sym (t .bytes) in
+            let f : length (bytesIn (t .it)) ≡ length there = sym (t .size-is) ∙ sym there-long in
+            let g : drop (length (bytesIn (t .it))) there ≡ [] = ap (λ (m : ℕ). drop m there) f ∙ drop-length there in
+            ap (λ (x : List ℕ). over x there) e ∙ ap (λ (x : List ℕ). bytesIn (t .it) ++ x) g ∙ append-nil (bytesIn (t .it))
 
         -- the columns after the row
         abbrev later : Columns
-        later = columns (set (k .kinds) i kind) (set (k .firsts) i a) (set (k .seconds) i b) (set (k .thirds) i c) (set (k .starts) i used) (putMid used (used + size - used) (k .pool) new)
+        later = columns (set (k .kinds) i kind) (set (k .firsts) i a) (set (k .seconds) i b) (set (k .thirds) i c) (set (k .starts) i used) pool
 
         column : (f : Call → ℕ) (old now′ : List ℕ) (x : ℕ) → now′ ≡ over (map f (w .done)) old → x ≡ f (t .it) → length cs ≤ length old → set now′ i x ≡ over (map f (w .done ++ (t .it ∷ []))) old
         column f old now′ x e g o =
@@ -221,15 +245,11 @@ module _ (s : List ℕ) (from : ℕ) (cs : List Call) (k₀ k : Columns) (at i u
             let z : used ≡ 0 + length (bytesOf (w .done)) = w .filled ∙ sym (zero-add (length (bytesOf (w .done)))) in
             rw (e, z) (over-set-at (startsOf 0 (w .done)) (k₀ .starts) i (0 + length (bytesOf (w .done))) u lt) ∙ ap (λ (x : List ℕ). over x (k₀ .starts)) (sym (starts-snoc 0 (w .done) (t .it)))
 
-        pool-is : putMid used (used + size - used) (k .pool) new ≡ over (bytesOf (w .done ++ (t .it ∷ []))) (k₀ .pool)
-        unfolding written
+        pool-is : pool ≡ over (bytesOf (w .done ++ (t .it ∷ []))) (k₀ .pool)
+        unfolding written there
         pool-is =
             let e : k .pool ≡ over (bytesOf (w .done)) (k₀ .pool) = ap (λ (x : Columns). x .pool) (w .is) in
-            let y = inside in
-            let o = ready .pool in
-            let z = l .pool in
-            let g : length new ≡ size = ap length bytes-are ∙ sym (t .size-is) in
-            part-back (k .pool) used size (omega arith) new g
+            d
             ∙ ap₂ (λ (x y′ : List ℕ). overlaid x used y′) e bytes-are
             ∙ over-pool (bytesOf (w .done)) (bytesIn (t .it)) (k₀ .pool) used (w .filled)
             ∙ ap (λ (x : List ℕ). over x (k₀ .pool)) (sym (bytes-snoc (w .done) (t .it)))
@@ -272,3 +292,6 @@ module _ (s : List ℕ) (from : ℕ) (cs : List Call) (k₀ k : Columns) (at i u
           where
             same : {k₁ k₂ a₁ a₂ b₁ b₂ d₁ d₂ s₁ s₂ p₁ p₂ : List ℕ} → k₁ ≡ k₂ → a₁ ≡ a₂ → b₁ ≡ b₂ → d₁ ≡ d₂ → s₁ ≡ s₂ → p₁ ≡ p₂ → columns k₁ a₁ b₁ d₁ s₁ p₁ ≡ columns k₂ a₂ b₂ d₂ s₂ p₂
             same e₁ e₂ e₃ e₄ e₅ e₆ = cc
+
+-- for `search (needs, stores)`
+pub ruleset stores = (store-none, store-some)

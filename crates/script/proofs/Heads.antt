@@ -1,9 +1,10 @@
 -- Line 1: what each way out of its readers says of it.
 -- Assumes nothing.
-use mathlib.Core.Path.{_≡_, refl, ap, sym, _∙_}
+use mathlib.Core.Path.{_≡_, refl, ap, ap₂, sym, _∙_}
 use mathlib.Core.Bool.{Bool, true, false, not, cond, _&&_, _||_}
 use mathlib.Core.List.{List, [], _∷_}
-use Prim.Native.Nat.{ℕ, suc, _+_, _≤_, _<_}
+use Prim.Native.Nat.{ℕ, zero, suc, _+_, _≤_, _<_}
+use native.Mathlib.Nat.{suc-ne-zero}
 use native.Mathlib.Omega.{arith}
 use lib.ListN.{length, drop}
 use lib.Dec.{eqb, leb}
@@ -286,26 +287,31 @@ told-test : (g : Geometry) → numberOfValidated (answered (geometryTest g)) ≡
 unfolding geometryTest
 told-test g = told-by (anyZero g) (noPowerOfTwo g) (unnested g)
 
-module _ (g : Geometry) (checked : Validated) (e : checked ≡ answered (geometryTest g)) (n : ℕ) (q : n ≡ numberOfValidated checked) where
-  number-is : n ≡ geometryTest g
-  number-is = q ∙ ap numberOfValidated e ∙ told-test g
+pub test-number : (g : Geometry) (checked : Validated) (n size r : ℕ) → checked ≡ answered (geometryTest g) → n ≡ numberOfValidated checked
+    → size ≡ unless (leb (g .capacity) 16384) 10 → r ≡ firstOf (n ∷ size ∷ []) → r ≡ headTest g
+unfolding headTest
+test-number g checked n size r e q z f =
+    let a : n ≡ geometryTest g = q ∙ ap numberOfValidated e ∙ told-test g in
+    f ∙ ap₂ (λ (x y : ℕ). firstOf (x ∷ y ∷ [])) a z
 
-  pub test-geometry : (n ≡ 0 → ⊥) → n ≡ headTest g
-  unfolding headTest
-  test-geometry h = number-is ∙ sym (firstOf-stop (geometryTest g) (unless (leb (g .capacity) 16384) 10 ∷ []) (λ z. h (number-is ∙ z)))
+pub size-large : (c : ℕ) → 16384 < c → 10 ≡ unless (leb c 16384) 10
+unfolding unless
+size-large c h = rw (lt-leb _ _ h)
 
-  module _ (z : n ≡ 0) where
-    by-capacity : headTest g ≡ firstOf (unless (leb (g .capacity) 16384) 10 ∷ [])
-    unfolding headTest
-    by-capacity = firstOf-pass (geometryTest g) (unless (leb (g .capacity) 16384) 10 ∷ []) (sym number-is ∙ z)
+pub size-sound : (c : ℕ) → c ≤ 16384 → 0 ≡ unless (leb c 16384) 10
+unfolding unless
+size-sound c h = rw (le-leb _ _ h)
 
-    pub test-large : 16384 < g .capacity → 10 ≡ headTest g
-    unfolding firstOf unless
-    test-large h = sym (by-capacity ∙ simp (lt-leb _ _ h))
+one-alone : (b : ℕ) → firstOf (b ∷ []) ≡ b
+unfolding firstOf
+one-alone zero = refl
+one-alone (suc b) = rw (ne-eqb (suc b) 0 (suc-ne-zero b))
 
-    pub test-sound : g .capacity ≤ 16384 → 0 ≡ headTest g
-    unfolding firstOf unless
-    test-sound h = sym (by-capacity ∙ simp (le-leb _ _ h))
+pub first-earlier : (a b : ℕ) → (a ≡ 0 → ⊥) → a ≡ firstOf (a ∷ b ∷ [])
+first-earlier a b n = sym (firstOf-stop a (b ∷ []) n)
+
+pub first-later : (a b : ℕ) → a ≡ 0 → b ≡ firstOf (a ∷ b ∷ [])
+first-later a b e = sym (firstOf-pass a (b ∷ []) e ∙ one-alone b)
 
 -- all of them, for `search (needs, heads)`
-pub ruleset heads = (units-no-capacity, units-no-erase, units-no-program, units-no-read, units-four, head-no-kind, head-other, head-no-units, head-no-rule, head-other-rule, head-no-mode, head-other-mode, head-given, test-geometry, test-large, test-sound)
+pub ruleset heads = (units-no-capacity, units-no-erase, units-no-program, units-no-read, units-four, head-no-kind, head-other, head-no-units, head-no-rule, head-other-rule, head-no-mode, head-other-mode, head-given, test-number, size-large, size-sound, first-earlier, first-later)

@@ -3,13 +3,14 @@
 use mathlib.Core.Path.{_≡_}
 use mathlib.Core.Bool.{Bool, cond}
 use mathlib.Core.List.{List, [], _∷_}
-use Prim.Native.Nat.{ℕ, _+_, _*_, _≤_, _<_}
+use Prim.Native.Nat.{ℕ, _+_, _-_, _≤_, _<_}
 use lib.ListN.{length, take, drop}
 use lib.Dec.{eqb}
+use Rattle.basics.specs.Parts.{part, overlaid}
 use Rattle.storage.specs.declared.Geometry.{Geometry}
 use Rattle.text.specs.Lines.{linesOf}
 use Rattle.text.specs.Numbers.{number, numberOf}
-use Rattle.text.specs.Pairs.{pairValues}
+use Rattle.text.specs.Pairs.{pairValues, decoded}
 use Rattle.script.specs.declared.Head.{Head}
 use Rattle.script.specs.declared.Line.{Line}
 use Rattle.script.specs.declared.Line.the-variants.{Row, Faulty}
@@ -162,3 +163,7 @@ pub record Ready (s : List ℕ) (from : ℕ) (k : Columns) (cs : List Call) : Ty
 abbrev pub callsRead : Reading → List Call
 callsRead (calls cs) = cs
 callsRead (faulty line) = []
+
+-- a pool with the bytes that the pairs from `start` on stand for, from `used` up to `free`
+abbrev pub stored : (s : List ℕ) (start : ℕ) (pool : List ℕ) (used free : ℕ) → List ℕ
+stored s start pool used free = overlaid pool used (decoded s start (part pool used (free - used)))

@@ -7,14 +7,17 @@
 // Reading goes over the text twice: the first time to know that no line is faulty, how many calls there are and how many
 // bytes they bring; the second time to store them. A line is read from its first byte on, with no look ahead for its end.
 ghost use mathlib.Core.Path.{_≡_};
+ghost use mathlib.Core.List.{[], _∷_};
 ghost use Prim.Native.Nat.{_≤_, _<_};
 ghost use lib.ListN.{length, drop};
+ghost use lib.Dec.{leb};
+ghost use Rattle.basics.specs.Tests.{unless, firstOf};
 ghost use Rattle.text.specs.Lines.{linesOf};
 ghost use Rattle.script.specs.Calls.{readLines};
 ghost use Rattle.script.specs.First.{headTest};
 ghost use Rattle.script.specs.Script.{scriptOf};
 ghost use Rattle.script.specs.Columns.{columns, written, roomFor, countOf, after, readInto};
-ghost use Rattle.script.specs.Inner.{Opened, Reads, ReadsUnits, ReadsHead, checkedFrom, Checks, Ready, callsRead};
+ghost use Rattle.script.specs.Inner.{Opened, Reads, ReadsUnits, ReadsHead, checkedFrom, Checks, Ready, callsRead, stored};
 use storage::Geometry;
 use text::LF;
 use text::Letter;
@@ -363,19 +366,34 @@ fn read_head(text: &[u8]) -> First
     First::Given { head, next }
 }
 
-// The number that refuses a geometry, 1 to 3 and then 10 for a capacity that is too large; or 0.
+// 10 for a capacity above 16,384, or 0.
+fn size_refusal(capacity: u32) -> u32
+    ensures { λ r. ⌜ r ≡ unless (leb capacity 16384) 10 ⌝ }
+{
+    if 16384 < capacity {
+        return 10;
+    }
+    0
+}
+
+// The first of two numbers that is not 0, or 0.
+fn first_of(earlier: u32, later: u32) -> u32
+    ensures { λ r. ⌜ r ≡ firstOf (earlier ∷ later ∷ []) ⌝ }
+{
+    if earlier != 0 {
+        return earlier;
+    }
+    later
+}
+
+// The number that refuses a geometry: 1 to 3, and then 10; or 0.
 fn head_refusal(geometry: Geometry) -> u32
     ensures { λ r. ⌜ r ≡ headTest geometry ⌝ }
 {
     let checked = geometry.check();
-    let number = checked.refusal();
-    if number != 0 {
-        return number;
-    }
-    if 16384 < geometry.capacity {
-        return 10;
-    }
-    0
+    let units = checked.refusal();
+    let size = size_refusal(geometry.capacity);
+    first_of(units, size)
 }
 
 // ---- the two passes
@@ -436,6 +454,17 @@ fn check(text: &[u8]) -> Whole
     }
 }
 
+// Stores a line's bytes over a part of the pool. Most lines have none, and are done at once.
+fn store_bytes(text: &[u8], start: usize, pool: &mut [u8], used: usize, free: usize)
+    requires { ⌜ (used ≤ free) × (free ≤ length (now pool)) ⌝ }
+    ensures { λ _. ⌜ now (pool .exit) ≡ stored (now (text .entry)) start (now (pool .entry)) used free ⌝ }
+{
+    if free == used {
+        return;
+    }
+    text::decode(text, start, &mut pool[used..free]);
+}
+
 // Stores a row for each call, and the bytes of all programs one after the other in the pool. The lines are sound and
 // there is room: `check` and `room_refusal` come first.
 fn fill_lines(
@@ -475,7 +504,7 @@ fn fill_lines(
         seconds[i] = second;
         thirds[i] = third;
         starts[i] = used as u32;
-        text::decode(text, start, &mut pool[used..free]);
+        store_bytes(text, start, pool, used, free);
         i = row;
         used = free;
         at = next;

@@ -2,7 +2,6 @@
 -- their bytes, of which there are `used`. Assumes nothing.
 use native.Mathlib.Omega.{arith}
 use borrow.Author.Needs.{needs}
-use mathlib.Core.Path.{refl}
 use denote.Ref.{now}
 use Prim.Native.Nat.{_-_, _≤_}
 use lib.ListN.{length, drop}
@@ -20,6 +19,16 @@ Inv-loop text from kinds₀ firsts₀ seconds₀ thirds₀ starts₀ pool₀ at�
 
 abbrev μ-loop : tie.MeasureT-loop
 μ-loop text from kinds₀ firsts₀ seconds₀ thirds₀ starts₀ pool₀ at₀ i₀ used₀ kinds firsts seconds thirds starts pool at i used = length text - at
+
+-- where a line was read: the turn's start, and room for the line's row and bytes
+abbrev turn : tie.After-known-told Inv-loop μ-loop → tie.At-loop Inv-loop μ-loop
+turn c = c .before .before .before .before .before
+
+room : (c : tie.After-known-told Inv-loop μ-loop)
+    → Roomy (columns (turn c .loop .kinds) (turn c .loop .firsts) (turn c .loop .seconds) (turn c .loop .thirds) (turn c .loop .starts) (turn c .loop .pool)) (turn c .loop .i) (turn c .loop .used) (c .before .line .given .0 .1 .1 .1 .1 .1 .0)
+room c =
+    fill-room _ _ _ _ _ _ _ _ (turn c .before .before .before .before .before .before .before .before .pre) (turn c .loop .inv .2) (turn c .loop .inv .1) (c .before .before .before .before .loop-test .taken)
+    _ _ _ _ _ _ _ _ (c .before .line .given .1) (c .before .before .before .read-line .ensures)
 
 loop-holds : tie.Need-loop-holds Inv-loop μ-loop
 loop-holds c = (search needs, same-long _, fill-start _ _ _ _ _ _ _ _ _ (c .before .before .before .before .before .before .before .pre))
@@ -55,69 +64,68 @@ returns : tie.Need-returns Inv-loop μ-loop
 returns c = fill-faulty _ _ _ _ _ _ _ _ (c .before .before .before .before .before .before .before .before .before .before .before .before .pre) (c .before .before .before .before .loop .inv .2) (c .before .before .before .before .loop .inv .1) (c .before .before .before .loop-test .taken) _ (c .enum-told .given .1) (c .before .before .read-line .ensures)
 
 add-row : tie.Need-add-row Inv-loop μ-loop
-add-row c = omega (arith, fill-room _ _ _ _ _ _ _ _ (c .before .before .before .before .before .before .before .before .before .before .before .before .before .pre) (c .before .before .before .before .before .loop .inv .2) (c .before .before .before .before .before .loop .inv .1) (c .before .before .before .before .loop-test .taken) _ _ _ _ _ _ _ _ (c .before .line .given .1) (c .before .before .before .read-line .ensures) .rows)
+add-row c = omega (arith, room c .rows)
 
 cast-free : tie.Need-cast-free Inv-loop μ-loop
 cast-free c = search needs
 
 add-free : tie.Need-add-free Inv-loop μ-loop
-add-free c = omega (arith, fill-room _ _ _ _ _ _ _ _ (c .before .before .before .before .before .before .before .before .before .before .before .before .before .pre) (c .before .before .before .before .before .loop .inv .2) (c .before .before .before .before .before .loop .inv .1) (c .before .before .before .before .loop-test .taken) _ _ _ _ _ _ _ _ (c .before .line .given .1) (c .before .before .before .read-line .ensures) .few)
+add-free c = omega (arith, room c .few)
 
 slice-write-kinds : tie.Need-slice-write-kinds Inv-loop μ-loop
-slice-write-kinds c = fill-room _ _ _ _ _ _ _ _ (c .before .before .before .before .before .before .before .before .before .before .before .before .before .pre) (c .before .before .before .before .before .loop .inv .2) (c .before .before .before .before .before .loop .inv .1) (c .before .before .before .before .loop-test .taken) _ _ _ _ _ _ _ _ (c .before .line .given .1) (c .before .before .before .read-line .ensures) .kinds
+slice-write-kinds c = room c .kinds
 
 mul-firsts : tie.Need-mul-firsts Inv-loop μ-loop
-mul-firsts c = omega (arith, fill-room _ _ _ _ _ _ _ _ (c .before .before .before .before .before .before .before .before .before .before .before .before .before .pre) (c .before .before .before .before .before .loop .inv .2) (c .before .before .before .before .before .loop .inv .1) (c .before .before .before .before .loop-test .taken) _ _ _ _ _ _ _ _ (c .before .line .given .1) (c .before .before .before .read-line .ensures) .rows)
+mul-firsts c = omega (arith, room c .rows)
 
 slice-write-firsts : tie.Need-slice-write-firsts Inv-loop μ-loop
-slice-write-firsts c = fill-room _ _ _ _ _ _ _ _ (c .before .before .before .before .before .before .before .before .before .before .before .before .before .pre) (c .before .before .before .before .before .loop .inv .2) (c .before .before .before .before .before .loop .inv .1) (c .before .before .before .before .loop-test .taken) _ _ _ _ _ _ _ _ (c .before .line .given .1) (c .before .before .before .read-line .ensures) .firsts
+slice-write-firsts c = room c .firsts
 
 mul-seconds : tie.Need-mul-seconds Inv-loop μ-loop
-mul-seconds c = omega (arith, fill-room _ _ _ _ _ _ _ _ (c .before .before .before .before .before .before .before .before .before .before .before .before .before .pre) (c .before .before .before .before .before .loop .inv .2) (c .before .before .before .before .before .loop .inv .1) (c .before .before .before .before .loop-test .taken) _ _ _ _ _ _ _ _ (c .before .line .given .1) (c .before .before .before .read-line .ensures) .rows)
+mul-seconds c = omega (arith, room c .rows)
 
 slice-write-seconds : tie.Need-slice-write-seconds Inv-loop μ-loop
-slice-write-seconds c = fill-room _ _ _ _ _ _ _ _ (c .before .before .before .before .before .before .before .before .before .before .before .before .before .pre) (c .before .before .before .before .before .loop .inv .2) (c .before .before .before .before .before .loop .inv .1) (c .before .before .before .before .loop-test .taken) _ _ _ _ _ _ _ _ (c .before .line .given .1) (c .before .before .before .read-line .ensures) .seconds
+slice-write-seconds c = room c .seconds
 
 mul-thirds : tie.Need-mul-thirds Inv-loop μ-loop
-mul-thirds c = omega (arith, fill-room _ _ _ _ _ _ _ _ (c .before .before .before .before .before .before .before .before .before .before .before .before .before .pre) (c .before .before .before .before .before .loop .inv .2) (c .before .before .before .before .before .loop .inv .1) (c .before .before .before .before .loop-test .taken) _ _ _ _ _ _ _ _ (c .before .line .given .1) (c .before .before .before .read-line .ensures) .rows)
+mul-thirds c = omega (arith, room c .rows)
 
 slice-write-thirds : tie.Need-slice-write-thirds Inv-loop μ-loop
-slice-write-thirds c = fill-room _ _ _ _ _ _ _ _ (c .before .before .before .before .before .before .before .before .before .before .before .before .before .pre) (c .before .before .before .before .before .loop .inv .2) (c .before .before .before .before .before .loop .inv .1) (c .before .before .before .before .loop-test .taken) _ _ _ _ _ _ _ _ (c .before .line .given .1) (c .before .before .before .read-line .ensures) .thirds
+slice-write-thirds c = room c .thirds
 
 cast-starts : tie.Need-cast-starts Inv-loop μ-loop
-cast-starts c = omega (arith, fill-room _ _ _ _ _ _ _ _ (c .before .before .before .before .before .before .before .before .before .before .before .before .before .pre) (c .before .before .before .before .before .loop .inv .2) (c .before .before .before .before .before .loop .inv .1) (c .before .before .before .before .loop-test .taken) _ _ _ _ _ _ _ _ (c .before .line .given .1) (c .before .before .before .read-line .ensures) .few)
+cast-starts c = omega (arith, room c .few)
 
 mul-starts : tie.Need-mul-starts Inv-loop μ-loop
-mul-starts c = omega (arith, fill-room _ _ _ _ _ _ _ _ (c .before .before .before .before .before .before .before .before .before .before .before .before .before .pre) (c .before .before .before .before .before .loop .inv .2) (c .before .before .before .before .before .loop .inv .1) (c .before .before .before .before .loop-test .taken) _ _ _ _ _ _ _ _ (c .before .line .given .1) (c .before .before .before .read-line .ensures) .rows)
+mul-starts c = omega (arith, room c .rows)
 
 slice-write-starts : tie.Need-slice-write-starts Inv-loop μ-loop
-slice-write-starts c = fill-room _ _ _ _ _ _ _ _ (c .before .before .before .before .before .before .before .before .before .before .before .before .before .pre) (c .before .before .before .before .before .loop .inv .2) (c .before .before .before .before .before .loop .inv .1) (c .before .before .before .before .loop-test .taken) _ _ _ _ _ _ _ _ (c .before .line .given .1) (c .before .before .before .read-line .ensures) .starts
+slice-write-starts c = room c .starts
 
-sub-decode : tie.Need-sub-decode Inv-loop μ-loop
-sub-decode c = search needs
-
-part-decode-start : tie.Need-part-decode-start Inv-loop μ-loop
-part-decode-start c = search needs
-
-part-decode-end : tie.Need-part-decode-end Inv-loop μ-loop
-part-decode-end c = fill-room _ _ _ _ _ _ _ _ (c .before .before .before .before .before .before .before .before .before .before .before .before .before .pre) (c .before .before .before .before .before .loop .inv .2) (c .before .before .before .before .before .loop .inv .1) (c .before .before .before .before .loop-test .taken) _ _ _ _ _ _ _ _ (c .before .line .given .1) (c .before .before .before .read-line .ensures) .pool
-
-decode-requires : tie.Need-decode-requires Inv-loop μ-loop
-decode-requires c κs = search needs
+store-bytes-requires : tie.Need-store-bytes-requires Inv-loop μ-loop
+store-bytes-requires c κs = (omega arith, room (c .before) .pool)
 
 loop-less : tie.Need-loop-less Inv-loop μ-loop
-loop-less c = omega (arith, row-taken (now (c .before .before .before .before .before .before .before .before .before .before .before .before .before .before .before .before .before .args .text)) (c .before .before .before .before .before .before .before .before .before .loop .at) _ _ _ _ _ _ _ _ (c .before .before .before .before .before .line .given .1) (c .before .before .before .before .before .before .before .read-line .ensures) .forward)
+loop-less c =
+    let told = c .before .before .before .before in
+    let start = turn told .before .before .before .before .before .before .before .before in
+    let loop = turn told .loop in
+    let test = told .before .before .before .before .loop-test .taken in
+    let line = told .before .line .given .1 in
+    let read = told .before .before .before .read-line .ensures in
+    omega (arith, row-taken (now (start .args .text)) (loop .at) _ _ _ _ _ _ _ _ line read .forward)
 
 loop-again : tie.Need-loop-again Inv-loop μ-loop
 loop-again c =
-    let start = c .before .before .before .before .before .before .before .before .before .before .before .before .before .before .before .before .before .pre in
-    let loop = c .before .before .before .before .before .before .before .before .before .loop in
-    let test = c .before .before .before .before .before .before .before .before .loop-test .taken in
-    let line = c .before .before .before .before .before .line .given .1 in
-    let read = c .before .before .before .before .before .before .before .read-line .ensures in (
-      row-taken (now (c .before .before .before .before .before .before .before .before .before .before .before .before .before .before .before .before .before .args .text)) (loop .at) _ _ _ _ _ _ _ _ line read .inside,
-      fill-same _ _ _ _ _ _ _ _ start (loop .inv .2) (loop .inv .1) test _ _ _ _ _ _ _ _ line read _ _ refl (c .before .before .decode .ensures),
-      fill-next _ _ _ _ _ _ _ _ start (loop .inv .2) (loop .inv .1) test _ _ _ _ _ _ _ _ line read _ _ refl (c .before .before .decode .ensures),
+    let told = c .before .before .before .before in
+    let start = turn told .before .before .before .before .before .before .before .before in
+    let loop = turn told .loop in
+    let test = told .before .before .before .before .loop-test .taken in
+    let line = told .before .line .given .1 in
+    let read = told .before .before .before .read-line .ensures in (
+      row-taken (now (start .args .text)) (loop .at) _ _ _ _ _ _ _ _ line read .inside,
+      fill-same _ _ _ _ _ _ _ _ (start .pre) (loop .inv .2) (loop .inv .1) test _ _ _ _ _ _ _ _ line read _ (c .before .before .store-bytes .ensures),
+      fill-next _ _ _ _ _ _ _ _ (start .pre) (loop .inv .2) (loop .inv .1) test _ _ _ _ _ _ _ _ line read _ (c .before .before .store-bytes .ensures),
     )
 
 same-length-7 : tie.Need-same-length-7 Inv-loop μ-loop
@@ -171,10 +179,7 @@ fill-lines-spec =
     cast-starts
     mul-starts
     slice-write-starts
-    sub-decode
-    part-decode-start
-    part-decode-end
-    decode-requires
+    store-bytes-requires
     loop-less
     loop-again
     same-length-7

@@ -10,15 +10,16 @@ check-requires c κs = search (needs, heads)
 refusal-requires : tie.Need-refusal-requires
 refusal-requires c κs = search (needs, heads)
 
+size-refusal-requires : tie.Need-size-refusal-requires
+size-refusal-requires c κs = search (needs, heads)
+
+first-of-requires : tie.Need-first-of-requires
+first-of-requires c κs = search (needs, heads)
+
 returns : tie.Need-returns
 returns c = search (needs, heads)
 
-returns-2 : tie.Need-returns-2
-returns-2 c = search (needs, heads)
-
-returns-3 : tie.Need-returns-3
-returns-3 c = search (needs, heads)
-
 pub head-refusal-spec : {M : Type 1} → statement M
 head-refusal-spec =
-    tie.close (tie.spec check-requires refusal-requires returns returns-2 returns-3)
+    tie.close
+    (tie.spec check-requires refusal-requires size-refusal-requires first-of-requires returns)
