@@ -27,6 +27,7 @@ use Rattle.script.specs.First.{FirstLine, given, noHead, headIs, headWit
 use Rattle.script.specs.Inner.{Cells, cells, broken, cellsOf, inFront, headIn, FourTaken, Unread, HeadTaken, ReadsUnits}
 use Rattle.script.specs.declared.Units.{Units}
 use Rattle.script.specs.declared.Units.the-variants.{Four, NoUnits}
+use Rattle.script.proofs.Letters.{neither}
 use Rattle.script.proofs.Told.{Inner, inner-value, inner-none, inner-letter, inner-inside, inner-same, inner-no-letter, last-letter, last-inside, last-same, last-no-letter}
 
 -- ---- cells with a field in front
@@ -172,11 +173,6 @@ module _ (s : List ℕ) (at : ℕ) (r₁ : Number) (e₁ : r₁ ≡ numberAt at 
             }
 
 -- ---- two letters of which one must be there
-
-neither : (t u : Bool) → (not t && not u) ≡ true → (t ≡ false) × (u ≡ false)
-neither true u e = absurd (let z : _≡_ {A = ℕ} 0 1 = cc in omega arith)
-neither false true e = absurd (let z : _≡_ {A = ℕ} 0 1 = cc in omega arith)
-neither false false e = (refl, refl)
 
 either : (t u : Bool) → (not t && not u) ≡ false → (t || u) ≡ true
 either true u e = refl

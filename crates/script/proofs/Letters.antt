@@ -1,14 +1,14 @@
 -- A line after the first, by its letter: what each way out of the line readers says of the line.
 -- Assumes nothing.
 use mathlib.Core.Path.{_≡_, refl, ap, sym, _∙_}
-use mathlib.Core.Bool.{Bool, true, false, cond, _&&_}
+use mathlib.Core.Bool.{Bool, true, false, cond, not, _&&_}
 use mathlib.Core.List.{List, [], _∷_, _++_}
 use Prim.Native.Nat.{ℕ, suc, _+_, _-_, _*_, _/_, _%_, _≤_, _<_}
 use native.Mathlib.Numerals.{add-one}
 use native.Mathlib.Omega.{arith}
 use lib.ListN.{length, getD, take, drop, drop-of-length-le}
 use lib.Dec.{eqb, leb}
-use borrow.Author.Tests.{eq-eqb, ne-eqb, le-leb, lt-leb}
+use borrow.Author.Tests.{ne-eqb, eqb-true, eqb-false, le-leb, lt-leb}
 use Rattle.basics.proofs.Scans.{at-step}
 use Rattle.text.specs.declared.Number.{Number}
 use Rattle.text.specs.declared.Number.the-variants.{Value, NoNumber}
@@ -37,6 +37,11 @@ opened s from k e h p q =
 
 -- ---- one field: `N` and `S`
 
+pub neither : (t u : Bool) → (not t && not u) ≡ true → (t ≡ false) × (u ≡ false)
+neither true u e = absurd (let z : _≡_ {A = ℕ} 0 1 = cc in omega arith)
+neither false true e = absurd (let z : _≡_ {A = ℕ} 0 1 = cc in omega arith)
+neither false false e = (refl, refl)
+
 alone-by : (t u : Bool) (k : ℕ) (xs : List ℕ) → (k ≡ 78 → ⊥) → (k ≡ 83 → ⊥) → meaningIn (cond t (cells [] [] (10 ∷ xs)) (cond u (pushCell (cells [] [] xs)) (ontoCell k (cells [] [] xs)))) ≡ malformed
 unfolding callOf
 alone-by true u k xs n m = refl
@@ -54,17 +59,27 @@ module _ (s : List ℕ) (from k : ℕ) (w : Opened s from k 10) where
   alone-cells : cellsOf (drop from s) ≡ cellsOf (k ∷ 10 ∷ drop (from + 2) s)
   alone-cells = ap cellsOf (w .is)
 
-  pub alone-end : k ≡ 78 → Taken s from 78 0 0 0 (from + 2) 0 (from + 2)
+  alone-end : k ≡ 78 → Taken s from k 0 0 0 (from + 2) 0 (from + 2)
   unfolding cellsOf callOf
-  alone-end e = record { it = end; field = 78 ∷ []; others = []; is = alone-cells ∙ rw e; means = refl; kind-is = refl; first-is = refl; second-is = refl; third-is = refl; size-is = refl; bytes = refl; small = omega arith; forward = omega arith; inside = w .inside }
+  alone-end e = record { it = end; field = 78 ∷ []; others = []; is = alone-cells ∙ rw e; means = refl; kind-is = e; first-is = refl; second-is = refl; third-is = refl; size-is = refl; bytes = refl; small = omega arith; forward = omega arith; inside = w .inside }
 
-  pub alone-barrier : k ≡ 83 → Taken s from 83 0 0 0 (from + 2) 0 (from + 2)
+  alone-barrier : k ≡ 83 → Taken s from k 0 0 0 (from + 2) 0 (from + 2)
   unfolding cellsOf callOf
-  alone-barrier e = record { it = barrier; field = 83 ∷ []; others = []; is = alone-cells ∙ rw e; means = refl; kind-is = refl; first-is = refl; second-is = refl; third-is = refl; size-is = refl; bytes = refl; small = omega arith; forward = omega arith; inside = w .inside }
+  alone-barrier e = record { it = barrier; field = 83 ∷ []; others = []; is = alone-cells ∙ rw e; means = refl; kind-is = e; first-is = refl; second-is = refl; third-is = refl; size-is = refl; bytes = refl; small = omega arith; forward = omega arith; inside = w .inside }
 
-  pub alone-faulty : (k ≡ 78 → ⊥) → (k ≡ 83 → ⊥) → meaningIn (cellsOf (drop from s)) ≡ malformed
+  row-by : (t u : Bool) → eqb k 78 ≡ t → eqb k 83 ≡ u → (not t && not u) ≡ false → Taken s from k 0 0 0 (from + 2) 0 (from + 2)
+  row-by true u p q e = alone-end (eqb-true k 78 p)
+  row-by false true p q e = alone-barrier (eqb-true k 83 q)
+  row-by false false p q e = absurd (let z : _≡_ {A = ℕ} 0 1 = cc in omega arith)
+
+  pub alone-row : (not (eqb k 78) && not (eqb k 83)) ≡ false → Taken s from k 0 0 0 (from + 2) 0 (from + 2)
+  alone-row e = row-by (eqb k 78) (eqb k 83) refl refl e
+
+  pub alone-faulty : (not (eqb k 78) && not (eqb k 83)) ≡ true → meaningIn (cellsOf (drop from s)) ≡ malformed
   unfolding cellsOf
-  alone-faulty n m = ap meaningIn alone-cells ∙ alone-by (eqb k 10) (eqb k 9) k (drop (from + 2) s) n m
+  alone-faulty e =
+      let t = neither (eqb k 78) (eqb k 83) e in
+      ap meaningIn alone-cells ∙ alone-by (eqb k 10) (eqb k 9) k (drop (from + 2) s) (eqb-false k 78 (t .0)) (eqb-false k 83 (t .1))
 
 -- ---- a letter and a tab, which others follow
 
@@ -323,4 +338,4 @@ line-cut s from h k =
     ∙ cut-by (eqb (getD s from 0) 10) (eqb (getD s from 0) 9) (getD s from 0)
 
 -- all of them, for `search (needs, letters)`
-pub ruleset letters = (opened, alone-end, alone-barrier, alone-faulty, begin-taken, begin-faulty, erase-faulty, erase-faulty-2, erase-taken, mark-faulty, mark-faulty-2, mark-faulty-3, mark-taken, program-faulty, program-faulty-2, program-faulty-3, program-taken, line-long-at, line-none-at, line-cut)
+pub ruleset letters = (opened, alone-row, alone-faulty, begin-taken, begin-faulty, erase-faulty, erase-faulty-2, erase-taken, mark-faulty, mark-faulty-2, mark-faulty-3, mark-taken, program-faulty, program-faulty-2, program-faulty-3, program-taken, line-long-at, line-none-at, line-cut)

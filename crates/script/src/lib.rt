@@ -102,30 +102,20 @@ fn alone_line(text: &[u8], from: usize, kind: u8) -> Line
     requires { ⌜ Opened (now text) from kind 10 ⌝ }
     ensures { λ r. ⌜ Reads (now (text .entry)) from r ⌝ }
 {
+    if (kind != b'N') & (kind != b'S') {
+        return Line::Faulty;
+    }
+    // One way for both: which of the two it is cannot be guessed.
     let next = from + 2;
-    if kind == b'N' {
-        return Line::Row {
-            kind: b'N',
-            first: 0,
-            second: 0,
-            third: 0,
-            start: next,
-            size: 0,
-            next,
-        };
+    Line::Row {
+        kind,
+        first: 0,
+        second: 0,
+        third: 0,
+        start: next,
+        size: 0,
+        next,
     }
-    if kind == b'S' {
-        return Line::Row {
-            kind: b'S',
-            first: 0,
-            second: 0,
-            third: 0,
-            start: next,
-            size: 0,
-            next,
-        };
-    }
-    Line::Faulty
 }
 
 // `B` id begins.

@@ -4,17 +4,14 @@ use Rattle.script.proofs.Letters.{letters}
 use Rattle.script.proofs.alone_line.Statement.{statement}
 use Rattle.script.proofs.alone_line.Tie as tie
 
-add-next : tie.Need-add-next
-add-next c = search (needs, letters)
-
 returns : tie.Need-returns
 returns c = search (needs, letters)
+
+add-next : tie.Need-add-next
+add-next c = search (needs, letters)
 
 returns-2 : tie.Need-returns-2
 returns-2 c = search (needs, letters)
 
-returns-3 : tie.Need-returns-3
-returns-3 c = search (needs, letters)
-
 pub alone-line-spec : {M : Type 1} → statement M
-alone-line-spec = tie.close (tie.spec add-next returns returns-2 returns-3)
+alone-line-spec = tie.close (tie.spec returns add-next returns-2)
