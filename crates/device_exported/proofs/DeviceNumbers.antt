@@ -10,6 +10,7 @@ use Prim.Native.Nat.{ℕ}
 use native.Mathlib.Omega.{arith}
 use lib.ListN.{length}
 use Rattle.basics.specs.Tests.{flag}
+use Rattle.basics.proofs.Tests.{unless-le, firstOf-le, firstOf-none}
 use Rattle.storage.specs.declared.Geometry.{Geometry}
 use Rattle.device.specs.declared.OneWayBits.{OneWayBits}
 use Rattle.device.specs.declared.Postimage.{Postimage}
@@ -18,7 +19,7 @@ use Rattle.device.specs.declared.Reply.{Reply}
 use Rattle.device.specs.Media.{Applied, applied, anyChanged}
 use Rattle.device.specs.Answers.{numberOfPostimage, numberOfReply, replied}
 use Rattle.device.specs.Calls.{Called, Copied, copied, readRefusal, programRefusal, eraseRefusal, barrierRefusal, readCall, programCall, eraseCall}
-use Rattle.device.proofs.Numbers.{small-geometry, first-le, media-le, none-le-7, reply-numbered}
+use Rattle.device.proofs.Numbers.{small-geometry, reply-numbered}
 use Rattle.device.proofs.Replies.{read-number, program-number, erase-number}
 use Rattle.device_exported.specs.Device.{countOver}
 
@@ -88,7 +89,8 @@ module _ (h g : Geometry) (same : h ≡ g) (media : List ℕ) (reply : Reply) (l
 
 barrier-number : (g : Geometry) (media : ℕ) → numberOfReply (replied (barrierRefusal g media)) ≡ barrierRefusal g media
 unfolding barrierRefusal
-barrier-number g media = reply-numbered _ (first-le _ _ 7 (media-le _) (first-le _ _ 7 (omega (arith, small-geometry g)) none-le-7))
+barrier-number g media =
+    reply-numbered _ (firstOf-le _ _ 7 (unless-le _ 7 7 (omega arith)) (firstOf-le _ _ 7 (omega (arith, small-geometry g)) (firstOf-none 7)))
 
 pub barrier-told : (h g : Geometry) → h ≡ g → (media : ℕ) (reply : Reply) (r : ℕ)
     → reply ≡ replied (barrierRefusal h media)

@@ -2,6 +2,7 @@
 
 mod common;
 mod device;
+mod oracle;
 mod storage;
 
 use common::{Comparison, Layer, Random};
@@ -9,7 +10,7 @@ use std::process::ExitCode;
 use std::time::Instant;
 
 /// The layers, lowest first.
-const LAYERS: &[Layer] = &[storage::LAYER, device::LAYER];
+const LAYERS: &[Layer] = &[storage::LAYER, device::LAYER, oracle::LAYER];
 
 /// Random inputs to each layer, where the caller does not say how many.
 const SIZE: u64 = 1_000_000;
