@@ -2,6 +2,7 @@
 
 mod common;
 mod device;
+mod inject;
 mod oracle;
 mod storage;
 
@@ -10,7 +11,7 @@ use std::process::ExitCode;
 use std::time::Instant;
 
 /// The layers, lowest first.
-const LAYERS: &[Layer] = &[storage::LAYER, device::LAYER, oracle::LAYER];
+const LAYERS: &[Layer] = &[storage::LAYER, device::LAYER, inject::LAYER, oracle::LAYER];
 
 /// Random inputs to each layer, where the caller does not say how many.
 const SIZE: u64 = 1_000_000;
