@@ -1,7 +1,16 @@
-// What every layer would else write again: a store into a lent column that no index can make go wrong. Its definitions
-// and laws, which the other crates cite, are in specs/ and proofs/.
+// What every layer would else write again: which of two tests refuses, and a store into a lent column that no index can make
+// go wrong. The definitions and laws that the other crates cite are in specs/ and proofs/.
 ghost use mathlib.Core.Path.{_≡_};
+ghost use mathlib.Core.List.{[], _∷_};
 ghost use lib.ListN.{set};
+ghost use Rattle.basics.specs.Tests.{firstOf};
+
+// The number of the first test that refuses, where a test that does not gives 0.
+pub fn first_of(number: u32, next: u32) -> u32
+    ensures { λ r. ⌜ r ≡ firstOf (number ∷ next ∷ []) ⌝ }
+{
+    if number != 0 { number } else { next }
+}
 
 // Stores `byte` at `at` in a column of bytes. Past the column's end nothing is stored, and nothing changes.
 pub fn store_u8(bytes: &mut [u8], at: usize, byte: u8)

@@ -38,7 +38,9 @@ use Rattle.device.specs.Media.{wouldSetABit, programmed, erased}
 use Rattle.device.specs.Answers.{numberOfReply, replied, rejects}
 use Rattle.device.specs.Calls.{mediaTest, bufferTest, readRefusal, writeRefusal, eraseRefusal, programRefusal, Called, called, readCall, programCall, eraseCall}
 use Rattle.device.proofs.Accepted.{read-known}
-use Rattle.device.proofs.Numbers.{small-geometry, small-span, answer-number, reply-numbered, first-le, media-le, buffer-le, none-le-7}
+use Rattle.basics.proofs.Tests.{unless-le, firstOf-le, firstOf-none}
+use Rattle.storage.proofs.Numbers.{span-most, refusal-number}
+use Rattle.device.proofs.Numbers.{small-geometry, reply-numbered}
 
 -- ---- the media's length, then what the geometry answered
 
@@ -68,7 +70,7 @@ module _ (g : Geometry) (media : ℕ) where
   -- the number in place of the geometry's answer
   pub media-checked : (n : ℕ) (checked : Validated) (r : Reply) → n ≤ 6 → checked ≡ answered n
       → r ≡ replied (firstOf (mediaTest g media ∷ numberOfValidated checked ∷ [])) → r ≡ replied (firstOf (mediaTest g media ∷ n ∷ []))
-  media-checked n checked r h e told = told ∙ ap (λ (k : ℕ). replied (firstOf (mediaTest g media ∷ k ∷ []))) (ap numberOfValidated e ∙ answer-number n h)
+  media-checked n checked r h e told = told ∙ ap (λ (k : ℕ). replied (firstOf (mediaTest g media ∷ k ∷ []))) (ap numberOfValidated e ∙ refusal-number n h)
 
 -- ---- a buffer longer than a u32 can count
 
@@ -83,7 +85,7 @@ module _ (g : Geometry) (checked : Validated) (told : checked ≡ answered (geom
 
 pub long-small : (g : Geometry) → firstOf (geometryTest g ∷ 6 ∷ []) ≤ 6
 unfolding firstOf
-long-small g = first-le (geometryTest g) (6 ∷ []) 6 (small-geometry g) (omega arith)
+long-small g = firstOf-le (geometryTest g) (6 ∷ []) 6 (small-geometry g) (omega arith)
 
 long-order : (m t s : ℕ) → firstOf (m ∷ firstOf (t ∷ 6 ∷ []) ∷ []) ≡ firstOf (m ∷ t ∷ 6 ∷ s ∷ [])
 unfolding firstOf
@@ -177,8 +179,8 @@ module _ (g : Geometry) (rule : OneWayBits) (media : List ℕ) (offset : ℕ) (s
 
 span-le : (g : Geometry) (unit media offset buffer : ℕ) → spanRefusal g unit media offset buffer ≤ 7
 span-le g unit media offset buffer =
-    first-le _ _ 7 (media-le _)
-    (first-le _ _ 7 (omega (arith, small-geometry g)) (first-le _ _ 7 (buffer-le _) (first-le _ _ 7 (omega (arith, small-span g unit offset buffer)) none-le-7)))
+    firstOf-le _ _ 7 (unless-le _ 7 7 (omega arith))
+    (firstOf-le _ _ 7 (omega (arith, small-geometry g)) (firstOf-le _ _ 7 (unless-le _ 6 7 (omega arith)) (firstOf-le _ _ 7 (omega (arith, span-most g unit offset buffer)) (firstOf-none 7))))
 
 pub read-number : (g : Geometry) (media : List ℕ) (offset : ℕ) (buffer : List ℕ)
     → numberOfReply (readCall g media offset buffer .reply) ≡ readRefusal g (length media) offset (length buffer)
@@ -189,7 +191,7 @@ pub erase-number : (g : Geometry) (media : List ℕ) (offset n : ℕ)
     → numberOfReply (eraseCall g media offset n .reply) ≡ eraseRefusal g (length media) offset n
 unfolding eraseCall eraseRefusal
 erase-number g media offset n =
-    reply-numbered _ (first-le _ _ 7 (media-le _) (first-le _ _ 7 (omega (arith, small-span g (g .«erase_size») offset n)) none-le-7))
+    reply-numbered _ (firstOf-le _ _ 7 (unless-le _ 7 7 (omega arith)) (firstOf-le _ _ 7 (omega (arith, span-most g (g .«erase_size») offset n)) (firstOf-none 7)))
 
 then-twenty : (w : ℕ) (b : Bool) → w ≤ 7 → numberOfReply (replied (firstOf (w ∷ refuseIf b 20 ∷ []))) ≡ firstOf (w ∷ refuseIf b 20 ∷ [])
 unfolding firstOf refuseIf

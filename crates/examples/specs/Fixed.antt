@@ -1,10 +1,19 @@
 -- Document 01, "Fixed examples, P to be proved": the rows marked P, as one statement about the definitions.
 -- Definitions only; assumes nothing.
 use mathlib.Core.Path.{_≡_}
+use mathlib.Core.List.{[], _∷_}
 use Prim.Native.Nat.{ℕ}
+use lib.ListN.{length}
 use Rattle.storage.specs.declared.Geometry.{Geometry}
 use Rattle.storage.specs.Geometry.{geometryOf, geometryTest}
 use Rattle.storage.specs.Span.{programTest}
+use Rattle.inject.specs.declared.Op.the-variants.{Erase, Barrier}
+use Rattle.inject.specs.declared.Progress.the-variants.{Bytes}
+use Rattle.inject.specs.declared.Interruption.{Interruption}
+use Rattle.inject.specs.declared.Interruption.the-variants.{PowerLoss, Watchdog}
+use Rattle.inject.specs.declared.Injection.{Injection}
+use Rattle.inject.specs.Points.{injectionsOf}
+use Rattle.landing.specs.Landed.{programLanded, eraseLanded}
 
 -- capacity 16, erase unit 8, program unit 4, read unit 4
 abbrev pub small : Geometry
@@ -24,7 +33,25 @@ pub record Spans : Type 0 where
   pub past-the-end : programTest small 12 8 ≡ 6
   pub at-capacity : programTest small 16 0 ≡ 0
 
+-- "P: 8 bytes, unit 4, count 5: power loss lands 5, watchdog 8. Erase 16, block 8, count 9: 8 and 16."
+abbrev pub cutAt : ℕ → Interruption → Injection
+cutAt count interruption = record { op = 0; progress = Bytes count; interruption = interruption }
+
+pub record Landings : Type 0 where
+  pub program-power-loss : programLanded (cutAt 5 PowerLoss) 8 4 ≡ 5
+  pub program-watchdog : programLanded (cutAt 5 Watchdog) 8 4 ≡ 8
+  pub erase-power-loss : eraseLanded (cutAt 9 PowerLoss) 16 8 ≡ 8
+  pub erase-watchdog : eraseLanded (cutAt 9 Watchdog) 16 8 ≡ 16
+
+-- "P: points of an empty list 2, a lone barrier 5, an erase of 16 with block 8, 9."
+pub record Points : Type 0 where
+  pub empty : length (injectionsOf small []) ≡ 2
+  pub lone-barrier : length (injectionsOf small (Barrier ∷ [])) ≡ 5
+  pub erase : length (injectionsOf small (Erase 0 16 ∷ [])) ≡ 9
+
 -- all of them; the layers above add their rows
 pub record FixedExamples : Type 0 where
   pub geometries : Geometries
   pub spans : Spans
+  pub landings : Landings
+  pub points : Points

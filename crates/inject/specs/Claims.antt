@@ -1,4 +1,4 @@
--- The words of the theorems on the list of crash points (proofs/Formula.antt, Distinct.antt, Bounds.antt).
+-- The words of the theorems on the list of crash points (proofs/Formula.antt, Members.antt, Distinct.antt).
 -- Definitions only; assumes nothing.
 use mathlib.Core.Path.{_≡_}
 use mathlib.Core.Logic.{_⊎_}

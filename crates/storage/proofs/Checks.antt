@@ -1,10 +1,10 @@
 -- The geometry check, test by test: what each way out of `Geometry::check` answers, and what a geometry that passes satisfies.
 -- Assumes nothing.
-use mathlib.Core.Path.{_≡_, refl, sym, ap, _∙_}
+use mathlib.Core.Path.{_≡_, refl, sym, _∙_}
 use mathlib.Core.Bool.{Bool, true, false, not, _||_}
-use mathlib.Core.List.{List, [], _∷_}
-use Prim.Native.Nat.{ℕ, zero, suc, _*_, _/_, _%_, _≤_, _<_}
-use native.Mathlib.Nat.{suc-ne-zero, pos-of-ne-zero, div-add-mod'}
+use mathlib.Core.List.{[], _∷_}
+use Prim.Native.Nat.{ℕ, zero, suc, _/_, _%_, _≤_, _<_}
+use native.Mathlib.Nat.{suc-ne-zero, pos-of-ne-zero}
 use native.Mathlib.Omega.{arith}
 use lib.Dec.{eqb, ltb}
 use lib.Count.{ones}
@@ -16,9 +16,7 @@ use Rattle.storage.specs.declared.GeometryError.{GeometryError}
 use Rattle.storage.specs.declared.Validated.{Validated}
 use Rattle.storage.specs.declared.Validated.the-variants.{Legal, Illegal}
 use Rattle.storage.specs.Geometry.{anyZero, oneBit, noPowerOfTwo, unnested, geometryTest}
-use Rattle.storage.specs.declared.NewGeometry.{NewGeometry}
 use Rattle.storage.specs.declared.NewGeometry.the-variants.{Described, NotDescribed}
-use Rattle.storage.specs.declared.EraseBlocks.{EraseBlocks}
 use Rattle.storage.specs.declared.EraseBlocks.the-variants.{Blocks, NoBlocks}
 use Rattle.storage.specs.Span.{spanTest}
 use Rattle.storage.specs.Answers.{errorOf, answered, described, blocksOf}

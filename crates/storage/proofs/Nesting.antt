@@ -3,20 +3,20 @@
 use mathlib.Core.Path.{_≡_, refl, sym, ap, ap₂, _∙_}
 use mathlib.Core.Logic.{⊎-elim}
 use mathlib.Core.Bool.{Bool, true, false, _&&_}
-use mathlib.Core.List.{List, [], _∷_}
-use Prim.Native.Nat.{ℕ, zero, suc, _+_, _-_, _*_, _/_, _%_, _^_, _≤_, _<_}
-use native.Mathlib.Nat.{mul-mod-left, div-add-mod', not-le-of-lt, pos-of-ne-zero, zero-mul, add-zero}
+use mathlib.Core.List.{[], _∷_}
+use Prim.Native.Nat.{ℕ, _+_, _-_, _*_, _/_, _%_, _^_, _≤_, _<_}
+use native.Mathlib.Nat.{mul-mod-left, div-add-mod', not-le-of-lt, pos-of-ne-zero, zero-mul}
 use native.Mathlib.Omega.{arith}
 use lib.Count.{ones}
 use lib.Dec.{eqb, leb, ltb}
 use lib.Pow.{pow-add, pow-lt}
-use borrow.Author.Tests.{eqb-true, leb-true}
-use Rattle.basics.specs.Tests.{unless, firstOf}
+use borrow.Author.Tests.{eqb-true, leb-true, ltb-true}
+use Rattle.basics.specs.Tests.{unless}
 use Rattle.basics.proofs.Tests.{le-or-gt, unless-zero, firstOf-zero}
 use Rattle.storage.specs.declared.Geometry.{Geometry}
 use Rattle.storage.specs.Geometry.{geometryTest}
 use Rattle.storage.specs.Span.{spanTest}
-use Rattle.storage.proofs.Powers.{one-bit, unit-pos}
+use Rattle.storage.proofs.Powers.{one-bit}
 use Rattle.storage.proofs.Checks.{nests}
 
 -- of two powers of two the larger is whole multiples of the smaller
@@ -59,7 +59,12 @@ pub record Legal (g : Geometry) (unit offset len : ℕ) : Type 0 where
   pub geometry : geometryTest g ≡ 0
   pub offset-whole : offset % unit ≡ 0
   pub length-whole : len % unit ≡ 0
+  pub fits : offset + len < 2 ^ 32
   pub inside : offset + len ≤ g .capacity
+
+first : (a b : Bool) → (a && b) ≡ true → a ≡ true
+first true b e = refl
+first false b e = e
 
 second : (a b : Bool) → (a && b) ≡ true → b ≡ true
 second true b e = e
@@ -79,5 +84,6 @@ legal g unit offset len e =
       geometry = one .0;
       offset-whole = eqb-true (offset % unit) 0 (unless-zero (eqb (offset % unit) 0) 3 (two .0));
       length-whole = eqb-true (len % unit) 0 (unless-zero (eqb (len % unit) 0) 4 (three .0));
+      fits = ltb-true (offset + len) (2 ^ 32) (first (ltb (offset + len) (2 ^ 32)) (leb (offset + len) (g .capacity)) (unless-zero _ 5 (last .0)));
       inside = leb-true (offset + len) (g .capacity) (second (ltb (offset + len) (2 ^ 32)) (leb (offset + len) (g .capacity)) (unless-zero _ 5 (last .0)));
     }

@@ -1,7 +1,7 @@
 -- "A unit is a power of two exactly if just one bit is set", and a mask tells the multiples of such a unit. Assumes nothing.
 use mathlib.Core.Path.{_≡_, refl, sym, ap, _∙_}
 use mathlib.Core.Logic.{_⊎_, inl, inr, ⊎-elim, _↔_}
-use Prim.Native.Nat.{ℕ, zero, suc, _+_, _-_, _*_, _/_, _%_, _^_, _≤_, _<_}
+use Prim.Native.Nat.{ℕ, zero, suc, _+_, _-_, _*_, _/_, _%_, _^_, _<_}
 use native.Mathlib.Nat.{pow-suc, mod-lt, div-add-mod', one-mul, add-zero}
 use native.Mathlib.Omega.{arith}
 use lib.Arith.{bin-ind}

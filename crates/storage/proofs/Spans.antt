@@ -1,11 +1,10 @@
 -- The span check, test by test: what each way out of `Geometry::validate` answers. Assumes nothing.
-use mathlib.Core.Path.{_≡_, refl, sym, ap, _∙_}
+use mathlib.Core.Path.{_≡_, refl}
 use mathlib.Core.Bool.{Bool, true, false, _&&_}
-use mathlib.Core.List.{List, [], _∷_}
 use Prim.Native.Nat.{ℕ, _+_, _%_, _^_, _≤_, _<_}
 use native.Mathlib.Omega.{arith}
-use lib.Dec.{eqb, leb, ltb}
-use borrow.Author.Tests.{lt-ltb, le-ltb, le-leb, lt-leb}
+use lib.Dec.{eqb}
+use borrow.Author.Tests.{lt-ltb, le-leb, lt-leb}
 use Rattle.basics.specs.Tests.{unless, firstOf}
 use Rattle.storage.specs.declared.Geometry.{Geometry}
 use Rattle.storage.specs.Geometry.{geometryTest}

@@ -1,7 +1,7 @@
 -- Document 01, "storage.rs (308), geometry": which four units describe a device.
 -- Definitions only; assumes nothing.
 use mathlib.Core.Bool.{Bool, not, _||_}
-use mathlib.Core.List.{List, [], _∷_}
+use mathlib.Core.List.{[], _∷_}
 use Prim.Native.Nat.{ℕ, _%_}
 use lib.Count.{ones}
 use lib.Dec.{eqb, ltb}

@@ -1,7 +1,7 @@
 -- Document 01, "storage.rs (308), geometry": which spans a call may name.
 -- Definitions only; assumes nothing.
 use mathlib.Core.Bool.{_&&_}
-use mathlib.Core.List.{List, [], _∷_}
+use mathlib.Core.List.{[], _∷_}
 use Prim.Native.Nat.{ℕ, _+_, _%_, _^_}
 use lib.Dec.{eqb, leb, ltb}
 use Rattle.basics.specs.Tests.{unless, firstOf}

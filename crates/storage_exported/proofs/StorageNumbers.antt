@@ -1,65 +1,24 @@
 -- The number of storage's answer to a test is the test's own number: every test gives 0 to 6, and each of these has its error.
 -- Assumes nothing.
 use mathlib.Core.Path.{_≡_, refl, sym, ap, _∙_}
-use mathlib.Core.Bool.{Bool, true, false, cond, _&&_}
-use mathlib.Core.List.{List, [], _∷_}
-use Prim.Native.Nat.{ℕ, zero, suc, _+_, _/_, _%_, _^_, _≤_, _<_}
+use mathlib.Core.Bool.{cond}
+use mathlib.Core.List.{List}
+use Prim.Native.Nat.{ℕ, zero, suc, _/_, _≤_}
 use native.Mathlib.Nat.{suc-ne-zero}
 use native.Mathlib.Omega.{arith}
-use lib.Dec.{eqb, leb, ltb}
+use lib.Dec.{eqb}
 use borrow.Author.Tests.{eq-eqb, ne-eqb}
-use Rattle.basics.specs.Tests.{unless, refuseIf, firstOf}
 use Rattle.storage.specs.declared.Geometry.{Geometry}
 use Rattle.storage.specs.declared.GeometryError.{GeometryError}
 use Rattle.storage.specs.declared.NewGeometry.{NewGeometry}
 use Rattle.storage.specs.declared.NewGeometry.the-variants.{Described, NotDescribed}
-use Rattle.storage.specs.declared.Validated.{Validated}
 use Rattle.storage.specs.declared.EraseBlocks.{EraseBlocks}
 use Rattle.storage.specs.declared.EraseBlocks.the-variants.{Blocks, NoBlocks}
 use Rattle.storage.specs.Geometry.{anyZero, noPowerOfTwo, unnested, geometryTest}
 use Rattle.storage.specs.Span.{spanTest}
 use Rattle.storage.specs.Answers.{numberOf, numberOfValidated, errorOf, answered, described, blocksOf}
-use Rattle.storage.proofs.Numbers.{numbered}
+use Rattle.storage.proofs.Numbers.{numbered, geometry-most}
 use Rattle.storage_exported.specs.Storage.{unitsIn, keptOf, blocksOver}
-
--- ---- no test gives more than its highest number
-
-three-tests : (a b c : Bool) → firstOf (refuseIf a 1 ∷ refuseIf b 2 ∷ refuseIf c 3 ∷ []) ≤ 3
-unfolding firstOf refuseIf
-three-tests true b c = omega arith
-three-tests false true c = omega arith
-three-tests false false true = omega arith
-three-tests false false false = omega arith
-
-pub geometry-most : (g : Geometry) → geometryTest g ≤ 3
-unfolding geometryTest
-geometry-most g = three-tests (anyZero g) (noPowerOfTwo g) (unnested g)
-
-four-tests : (n : ℕ) → n ≤ 3 → (a b c : Bool) → firstOf (n ∷ unless a 4 ∷ unless b 5 ∷ unless c 6 ∷ []) ≤ 6
-unfolding firstOf unless
-four-tests zero h false b c = omega arith
-four-tests zero h true false c = omega arith
-four-tests zero h true true false = omega arith
-four-tests zero h true true true = omega arith
-four-tests (suc n) h a b c = rw (ne-eqb (suc n) 0 (suc-ne-zero n)) (omega arith)
-
-pub span-most : (g : Geometry) (unit offset len : ℕ) → spanTest g unit offset len ≤ 6
-unfolding spanTest
-span-most g unit offset len =
-    four-tests (geometryTest g) (geometry-most g) (eqb (offset % unit) 0) (eqb (len % unit) 0) (ltb (offset + len) (2 ^ 32) && leb (offset + len) (g .capacity))
-
--- ---- from an answer back to the number
-
-pub refusal-number : (n : ℕ) → n ≤ 6 → numberOfValidated (answered n) ≡ n
-refusal-number zero h = refl
-refusal-number (suc n) h = rw (ne-eqb (suc n) 0 (suc-ne-zero n)) (numbered (suc n) (omega arith) h)
-
--- the three span checks: what `refusal` gives of the answer is the test's number
-pub span-refusal : (g : Geometry) (unit offset len : ℕ) (checked : Validated) (r : ℕ) → checked ≡ answered (spanTest g unit offset len)
-    → r ≡ numberOfValidated checked
-    → r ≡ spanTest g unit offset len
-span-refusal g unit offset len checked r told number =
-    number ∙ ap numberOfValidated told ∙ refusal-number (spanTest g unit offset len) (span-most g unit offset len)
 
 -- `Geometry::new` over the number n of its test: the geometry for 0, else the error of the number
 new-taken-by : (n : ℕ) (g h : Geometry) → cond (eqb n 0) (Described g) (NotDescribed (errorOf n)) ≡ Described h → (0 ≡ n) × (g ≡ h)

@@ -1,7 +1,9 @@
 //! Holds the proved functions against the original Rust, on the same inputs, in one process. `run` builds and starts it.
 
 mod common;
+mod device;
 mod inject;
+mod oracle;
 mod storage;
 
 use common::{Comparison, Layer, Random};
@@ -9,7 +11,7 @@ use std::process::ExitCode;
 use std::time::Instant;
 
 /// The layers, lowest first.
-const LAYERS: &[Layer] = &[storage::LAYER, inject::LAYER];
+const LAYERS: &[Layer] = &[storage::LAYER, device::LAYER, inject::LAYER, oracle::LAYER];
 
 /// Random inputs to each layer, where the caller does not say how many.
 const SIZE: u64 = 1_000_000;

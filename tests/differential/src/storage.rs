@@ -76,7 +76,7 @@ impl common::Answer for Answer {
 /// What stands in a place before it is written. A refusal leaves it there.
 const UNWRITTEN: u32 = 0xDEAD_BEEF;
 
-fn number_of(error: GeometryError) -> u32 {
+pub fn number_of(error: GeometryError) -> u32 {
     match error {
         GeometryError::ZeroUnit => 1,
         GeometryError::UnitIsNotAPowerOfTwo => 2,

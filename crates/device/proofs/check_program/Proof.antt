@@ -3,7 +3,7 @@ use mathlib.Core.Path.{ap, _∙_}
 use native.Mathlib.Omega.{arith}
 use Rattle.device.specs.Answers.{replied}
 use Rattle.device.specs.Calls.{writeRefusal}
-use Rattle.device.proofs.Numbers.{small-span}
+use Rattle.storage.proofs.Numbers.{span-most}
 use Rattle.device.proofs.Replies.{media-checked, long-small, too-long, span-passed}
 use borrow.Author.Needs.{needs}
 use Rattle.device.proofs.check_program.Statement.{statement}
@@ -35,7 +35,7 @@ returns-2 : tie.Need-returns-2
 unfolding writeRefusal
 returns-2 c =
     let start = c .before .before .before .args in
-    media-checked (start .geometry) (start .media) _ _ _ (small-span (start .geometry) (start .geometry .«program_size») (start .offset) (start .program-len)) (c .before .validate-program .ensures) (c .checked-media2 .ensures)
+    media-checked (start .geometry) (start .media) _ _ _ (span-most (start .geometry) (start .geometry .«program_size») (start .offset) (start .program-len)) (c .before .validate-program .ensures) (c .checked-media2 .ensures)
     ∙ ap replied (span-passed (start .geometry) (start .geometry .«program_size») (start .media) (start .offset) (start .program-len) (omega arith))
 
 pub check-program-spec : {M : Type 1} → statement M

@@ -4,7 +4,7 @@ use lib.ListN.{length}
 use Rattle.device.specs.Media.{Applied}
 use Rattle.device.specs.Answers.{replied}
 use Rattle.device.specs.Calls.{eraseRefusal}
-use Rattle.device.proofs.Numbers.{small-span}
+use Rattle.storage.proofs.Numbers.{span-most}
 use Rattle.device.proofs.Replies.{media-checked, erase-refused, erase-accepted}
 use borrow.Author.Needs.{needs}
 use Rattle.device.proofs.erase.Statement.{statement}
@@ -17,7 +17,7 @@ told : (c : tie.After-checked-media)
 unfolding eraseRefusal
 told c =
     let start = c .before .before .before .args in
-    media-checked (start .geometry) (length (start .media .now)) _ _ _ (small-span (start .geometry) (start .geometry .«erase_size») (start .offset) (start .len)) (c .before .validate-erase .ensures) (c .checked-media .ensures)
+    media-checked (start .geometry) (length (start .media .now)) _ _ _ (span-most (start .geometry) (start .geometry .«erase_size») (start .offset) (start .len)) (c .before .validate-erase .ensures) (c .checked-media .ensures)
 
 validate-erase-requires : tie.Need-validate-erase-requires
 validate-erase-requires c κs = search needs

@@ -24,20 +24,35 @@ Inv-loop kinds offsets lens geometry cause at ops₀ progresses₀ counts₀ int
 abbrev μ-loop : tie.MeasureT-loop
 μ-loop kinds offsets lens geometry cause at ops₀ progresses₀ counts₀ interruptions₀ next₀ i₀ ops progresses counts interruptions next i = length kinds - i
 
+-- the ways back: from the call's arguments and from the call to the row's group, from there to the loop's test, and to the start
+abbrev asked : tie.After-write-group-arg4 Inv-loop μ-loop → tie.After-group-at Inv-loop μ-loop
+asked c = c .before .before .before .before
+
+abbrev called : tie.After-slice-known8 Inv-loop μ-loop → tie.After-write-group Inv-loop μ-loop
+called c = c .before .before .before .before .before .before .before .before
+
+abbrev grouped : tie.After-write-group Inv-loop μ-loop → tie.After-group-at Inv-loop μ-loop
+grouped c = c .before .before .before .before .before
+
+abbrev start : tie.In-loop Inv-loop μ-loop → tie.Start Inv-loop μ-loop
+start c = c .before .before .before .before .before .before .before .before .before
+
 loop-holds : tie.Need-loop-holds Inv-loop μ-loop
 loop-holds c = (omega arith, kept-all _, refl)
 
 group-at-requires : tie.Need-group-at-requires Inv-loop μ-loop
-group-at-requires c κs = (c .before .before .before .before .before .before .before .before .before .pre .0, c .loop-test .taken)
+group-at-requires c κs = (start c .pre .0, c .loop-test .taken)
 
 write-group-requires : tie.Need-write-group-requires Inv-loop μ-loop
-write-group-requires c κs = let s = c .before .before .before .before .before .before .before .before .before .before .before .before .before .before in
-    let l = c .before .before .before .before .before .before .loop in
-    let g = c .before .before .before .before .group-at in (
+write-group-requires c κs =
+    let g = asked c in
+    let i = g .before in
+    let s = start i in
+    let l = i .before .loop in (
       omega (arith, s .pre .0 .few),
-      g .ensures .small,
-      walk-room (s .args .geometry) (s .args .cause) (now (s .args .kinds)) (now (s .args .offsets)) (now (s .args .lens)) (s .pre .0) (l .i) (c .before .before .before .before .before .loop-test .taken) (g .result) (g .ensures)
-          _ _ (s .pre .1) _ _ (l .inv .1) (l .inv .2),
+      g .group-at .ensures .small,
+      walk-room (s .args .geometry) (s .args .cause) (now (s .args .kinds)) (now (s .args .offsets)) (now (s .args .lens)) (s .pre .0) (l .i) (i .loop-test .taken)
+          (g .group-at .result) (g .group-at .ensures) _ _ (s .pre .1) _ _ (l .inv .1) (l .inv .2),
     )
 
 add-i : tie.Need-add-i Inv-loop μ-loop
@@ -47,14 +62,16 @@ loop-less : tie.Need-loop-less Inv-loop μ-loop
 loop-less c = omega arith
 
 loop-again : tie.Need-loop-again Inv-loop μ-loop
-loop-again c = let e = c .before .before .before .before .before .before .before .before in
-    let s = e .before .before .before .before .before .before .before .before .before .before .before .before .before .before .before in
-    let l = e .before .before .before .before .before .before .before .loop in
-    let g = e .before .before .before .before .before .group-at in (
+loop-again c =
+    let e = called c in
+    let g = grouped e in
+    let i = g .before in
+    let s = start i in
+    let l = i .before .loop in (
       omega arith,
       kept-trans _ _ _ (l .inv .1) (kept _ _ _ _ _ (e .write-group .ensures)),
-      walk-more (s .args .geometry) (s .args .cause) (now (s .args .kinds)) (now (s .args .offsets)) (now (s .args .lens)) (s .pre .0) (l .i) (e .before .before .before .before .before .before .loop-test .taken) (g .result) (g .ensures)
-          _ _ _ _ (e .write-group .ensures)
+      walk-more (s .args .geometry) (s .args .cause) (now (s .args .kinds)) (now (s .args .offsets)) (now (s .args .lens)) (s .pre .0) (l .i) (i .loop-test .taken)
+          (g .group-at .result) (g .group-at .ensures) _ _ _ _ (e .write-group .ensures)
           ∙ l .inv .2,
     )
 
@@ -71,9 +88,11 @@ same-length-4 : tie.Need-same-length-4 Inv-loop μ-loop
 same-length-4 c = c .before .loop .inv .1 .interruptions
 
 returns : tie.Need-returns Inv-loop μ-loop
-returns c = let s = c .before .before .before .before .before .before .before .before .before in
+returns c =
+    let s = c .before .before .before .before .before .before .before .before .before in
     let l = c .before .loop in
-    walk-end (s .args .geometry) (s .args .cause) (l .i) (now (s .args .kinds)) (now (s .args .offsets)) (now (s .args .lens)) (c .loop-test .left) _ _ ∙ l .inv .2
+    walk-end (s .args .geometry) (s .args .cause) (l .i) (now (s .args .kinds)) (now (s .args .offsets)) (now (s .args .lens)) (c .loop-test .left) _ _
+    ∙ l .inv .2
 
 pub write-groups-spec : {M : Type 1} → statement M
 write-groups-spec =

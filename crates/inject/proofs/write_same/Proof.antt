@@ -20,17 +20,29 @@ Inv-loop times progress op cause at ops₀ progresses₀ counts₀ interruptions
 abbrev μ-loop : tie.MeasureT-loop
 μ-loop times progress op cause at ops₀ progresses₀ counts₀ interruptions₀ next₀ done₀ ops progresses counts interruptions next done = times - done
 
+-- the ways back: from the call's arguments and from the call to the loop's test, and from there to the start
+abbrev asked : tie.After-write-point-arg4 Inv-loop μ-loop → tie.In-loop Inv-loop μ-loop
+asked c = c .before .before .before .before
+
+abbrev called : tie.After-slice-known8 Inv-loop μ-loop → tie.After-write-point Inv-loop μ-loop
+called c = c .before .before .before .before .before .before .before .before
+
+abbrev tested : tie.After-write-point Inv-loop μ-loop → tie.In-loop Inv-loop μ-loop
+tested c = c .before .before .before .before .before
+
+abbrev start : tie.In-loop Inv-loop μ-loop → tie.Start Inv-loop μ-loop
+start c = c .before .before .before .before .before .before
+
 loop-holds : tie.Need-loop-holds Inv-loop μ-loop
 loop-holds c = (omega arith, sym (add-zero _), no-rows _ _)
 
 write-point-requires : tie.Need-write-point-requires Inv-loop μ-loop
-write-point-requires c κs = let s = c .before .before .before .before .before .before .before .before .before .before in
-    let l = c .before .before .before .before .before .loop in
-    (s .pre .0, kept-room _ _ _ _ (kept _ _ _ _ _ (l .inv .2)) (omega arith) (s .pre .1))
+write-point-requires c κs =
+    let i = asked c in
+    (start i .pre .0, kept-room _ _ _ _ (kept _ _ _ _ _ (i .before .loop .inv .2)) (omega arith) (start i .pre .1))
 
 add-next : tie.Need-add-next Inv-loop μ-loop
-add-next c = let s = c .before .before .before .before .before .before .before .before .before .before .before .before .before .before .before .before .before .before .before in
-    omega (arith, s .pre .1 .in-ops)
+add-next c = omega (arith, start (tested (called c)) .pre .1 .in-ops)
 
 add-done : tie.Need-add-done Inv-loop μ-loop
 add-done c = omega arith
@@ -39,8 +51,9 @@ loop-less : tie.Need-loop-less Inv-loop μ-loop
 loop-less c = omega arith
 
 loop-again : tie.Need-loop-again Inv-loop μ-loop
-loop-again c = let l = c .before .before .before .before .before .before .before .before .before .before .before .before .before .before .loop in
-    (omega arith, omega arith, same-rows _ _ (l .done) _ _ _ _ (l .inv .2) (c .before .before .before .before .before .before .before .before .write-point .ensures))
+loop-again c =
+    let l = tested (called c) .before .loop in
+    (omega arith, omega arith, same-rows _ _ (l .done) _ _ _ _ (l .inv .2) (called c .write-point .ensures))
 
 same-length : tie.Need-same-length Inv-loop μ-loop
 same-length c = let k = kept _ _ _ _ _ (c .before .loop .inv .2) .ops in search needs

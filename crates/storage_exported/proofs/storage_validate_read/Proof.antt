@@ -1,6 +1,6 @@
 -- `storage_exported::storage_validate_read` meets its contract: the number of the answer is the number of the test. Assumes nothing.
 use borrow.Author.Needs.{needs}
-use Rattle.storage_exported.proofs.StorageNumbers.{span-refusal}
+use Rattle.storage.proofs.Numbers.{span-refusal}
 use Rattle.storage_exported.proofs.storage_validate_read.Statement.{statement}
 use Rattle.storage_exported.proofs.storage_validate_read.Tie as tie
 

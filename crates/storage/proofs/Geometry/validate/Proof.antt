@@ -1,12 +1,12 @@
 -- `storage::Geometry::validate` meets its contract: each way out is one row of the definition's tests. Assumes nothing.
 use mathlib.Core.Path.{_≡_, sym, _∙_}
-use mathlib.Core.Bool.{true, false}
+use mathlib.Core.Bool.{true}
 use Prim.Native.Nat.{_%_}
 use native.Mathlib.Omega.{arith}
 use lib.Dec.{eqb}
 use borrow.Author.Needs.{needs}
 use borrow.Author.Tests.{not-true, not-false}
-use Rattle.storage.specs.Geometry.{geometryTest, oneBit}
+use Rattle.storage.specs.Geometry.{geometryTest}
 use Rattle.storage.proofs.Checks.{passes, span-illegal}
 use Rattle.storage.proofs.Spans.{span-offset, span-length, span-end, span-legal}
 use Rattle.storage.proofs.Geometry.validate.Statement.{statement}

@@ -1,0 +1,2 @@
+-- How verdicts and answers cross as numbers. Definitions only; assumes nothing.
+pub mod Cells

@@ -1,0 +1,3 @@
+-- Laws of the erase's definition.
+pub mod Calls
+pub mod Laws
