@@ -2,10 +2,11 @@
 //! its place, and all of them in lent columns.
 
 use crate::common::{self, Comparison, Difference, Input, Layer, Random, bench_row, smaller_numbers};
+use crate::storage::number_of;
 use std::cell::RefCell;
 use std::hint::black_box;
 use waymaker_fault::inject::{Injection, Interruption, Op, Progress, injections};
-use waymaker_flash::storage::{Geometry, GeometryError};
+use waymaker_flash::storage::Geometry;
 
 pub const LAYER: Layer = Layer { name: "inject", compare, bench, sample };
 
@@ -219,15 +220,6 @@ fn unwritten_columns(lent: [usize; 4]) -> Columns {
         progresses: vec![UNWRITTEN_BYTE; lent[1]],
         counts: vec![UNWRITTEN; lent[2]],
         interruptions: vec![UNWRITTEN_BYTE; lent[3]],
-    }
-}
-
-fn number_of(error: GeometryError) -> u32 {
-    match error {
-        GeometryError::ZeroUnit => 1,
-        GeometryError::UnitIsNotAPowerOfTwo => 2,
-        GeometryError::UnitsDoNotNest => 3,
-        _ => unreachable!("no span is checked here"),
     }
 }
 
