@@ -1,6 +1,7 @@
 //! Holds the proved functions against the original Rust, on the same inputs, in one process. `run` builds and starts it.
 
 mod common;
+mod session;
 mod storage;
 
 use common::{Comparison, Layer, Random};
@@ -8,7 +9,7 @@ use std::process::ExitCode;
 use std::time::Instant;
 
 /// The layers, lowest first.
-const LAYERS: &[Layer] = &[storage::LAYER];
+const LAYERS: &[Layer] = &[storage::LAYER, session::LAYER];
 
 /// Random inputs to each layer, where the caller does not say how many.
 const SIZE: u64 = 1_000_000;
