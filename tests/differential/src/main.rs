@@ -4,6 +4,7 @@ mod common;
 mod device;
 mod inject;
 mod oracle;
+mod session;
 mod storage;
 
 use common::{Comparison, Layer, Random};
@@ -11,7 +12,7 @@ use std::process::ExitCode;
 use std::time::Instant;
 
 /// The layers, lowest first.
-const LAYERS: &[Layer] = &[storage::LAYER, device::LAYER, inject::LAYER, oracle::LAYER];
+const LAYERS: &[Layer] = &[storage::LAYER, device::LAYER, inject::LAYER, oracle::LAYER, session::LAYER];
 
 /// Random inputs to each layer, where the caller does not say how many.
 const SIZE: u64 = 1_000_000;
