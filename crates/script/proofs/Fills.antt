@@ -14,7 +14,8 @@ use Rattle.basics.proofs.Parts.{part-back}
 use Rattle.text.specs.Lines.{linesOf}
 use Rattle.text.specs.Pairs.{pairValues, over, decoded}
 use Rattle.script.specs.declared.Line.{Line}
-use Rattle.script.specs.declared.Line.the-variants.{Row, Faulty}
+use Rattle.script.specs.declared.Line.the-variants.{Call as Called, Faulty}
+use Rattle.script.specs.declared.Row.{Row}
 use Rattle.script.specs.Calls.{Call, malformed, Reading, calls, faulty, callThen, readLines}
 use Rattle.script.specs.Columns.{Columns, columns, kindOf, firstIn, secondIn, thirdIn, bytesIn, startsOf, bytesOf, written}
 use Rattle.script.specs.Inner.{cellsOf, meaningIn, Taken, Reads, Ready, callsRead, stored}
@@ -160,12 +161,15 @@ module _ (s : List ℕ) (from : ℕ) (cs : List Call) (k₀ k : Columns) (at i u
         let e : faulty (i + 2) ≡ calls (w .rest) = sym (line-faulty s at (i + 2) h m) ∙ w .lines in
         absurd (let z : _≡_ {A = ℕ} 0 1 = cc in omega arith)
 
-    module _ (kind a b c start size next : ℕ) (q : r ≡ Row kind a b c start size next) (v : Reads s at r) where
-      t : Taken s at kind a b c start size next
-      t = row-taken s at r kind a b c start size next q v
+    module _ (row : Row) (next : ℕ) (q : r ≡ Called row next) (v : Reads s at r) where
+      abbrev size : ℕ
+      size = row .size
+
+      t : Taken s at row next
+      t = row-taken s at r row next q v
 
       n : Next s (t .it) (w .rest) (i + 2 + 1) next
-      n = next-by (readLines (i + 2 + 1) (linesOf (drop next s))) s (t .it) (w .rest) (i + 2 + 1) next refl (sym (line-taken s at kind a b c start size next (i + 2) t) ∙ w .lines)
+      n = next-by (readLines (i + 2 + 1) (linesOf (drop next s))) s (t .it) (w .rest) (i + 2 + 1) next refl (sym (line-taken s at row next (i + 2) t) ∙ w .lines)
 
       whole : cs ≡ w .done ++ (t .it ∷ n .others)
       whole = sym (w .all) ∙ ap (λ (x : List Call). w .done ++ x) (n .is)
@@ -200,7 +204,7 @@ module _ (s : List ℕ) (from : ℕ) (cs : List Call) (k₀ k : Columns) (at i u
           }
 
       -- the bytes as `store_bytes` leaves them
-      module _ (pool : List ℕ) (d : pool ≡ stored s start (k .pool) used (used + size)) where
+      module _ (pool : List ℕ) (d : pool ≡ stored s (row .start) (k .pool) used (used + size)) where
         there : List ℕ
         there = part (k .pool) used (used + size - used)
 
@@ -214,16 +218,16 @@ module _ (s : List ℕ) (from : ℕ) (cs : List Call) (k₀ k : Columns) (at i u
             let g : size ≤ length (drop used (k .pool)) = rw length-drop (omega arith) in
             ap (λ (m : ℕ). length (take m (drop used (k .pool)))) f ∙ length-take-le size (drop used (k .pool)) g
 
-        bytes-are : decoded s start there ≡ bytesIn (t .it)
+        bytes-are : decoded s (row .start) there ≡ bytesIn (t .it)
         bytes-are =
-            let e : take (length there) (pairValues (drop start s)) ≡ bytesIn (t .it) = ap (λ (m : ℕ). take m (pairValues (drop start s))) there-long ∙ sym (t .bytes) in
+            let e : take (length there) (pairValues (drop (row .start) s)) ≡ bytesIn (t .it) = ap (λ (m : ℕ). take m (pairValues (drop (row .start) s))) there-long ∙ sym (t .bytes) in
             let f : length (bytesIn (t .it)) ≡ length there = sym (t .size-is) ∙ sym there-long in
             let g : drop (length (bytesIn (t .it))) there ≡ [] = ap (λ (m : ℕ). drop m there) f ∙ drop-length there in
             ap (λ (x : List ℕ). over x there) e ∙ ap (λ (x : List ℕ). bytesIn (t .it) ++ x) g ∙ append-nil (bytesIn (t .it))
 
         -- the columns after the row
         abbrev later : Columns
-        later = columns (set (k .kinds) i kind) (set (k .firsts) i a) (set (k .seconds) i b) (set (k .thirds) i c) (set (k .starts) i used) pool
+        later = columns (set (k .kinds) i (row .kind)) (set (k .firsts) i (row .first)) (set (k .seconds) i (row .second)) (set (k .thirds) i (row .third)) (set (k .starts) i used) pool
 
         column : (f : Call → ℕ) (old now′ : List ℕ) (x : ℕ) → now′ ≡ over (map f (w .done)) old → x ≡ f (t .it) → length cs ≤ length old → set now′ i x ≡ over (map f (w .done ++ (t .it ∷ []))) old
         column f old now′ x e g o =
@@ -263,10 +267,10 @@ module _ (s : List ℕ) (from : ℕ) (cs : List Call) (k₀ k : Columns) (at i u
             let o = ready .pool in
             let g : length (bytesOf (w .done ++ (t .it ∷ []))) ≤ length (k₀ .pool) = omega arith in
             record {
-              kinds = length-set (k .kinds) i kind ∙ l .kinds;
-              firsts = length-set (k .firsts) i a ∙ l .firsts;
-              seconds = length-set (k .seconds) i b ∙ l .seconds;
-              thirds = length-set (k .thirds) i c ∙ l .thirds;
+              kinds = length-set (k .kinds) i (row .kind) ∙ l .kinds;
+              firsts = length-set (k .firsts) i (row .first) ∙ l .firsts;
+              seconds = length-set (k .seconds) i (row .second) ∙ l .seconds;
+              thirds = length-set (k .thirds) i (row .third) ∙ l .thirds;
               starts = length-set (k .starts) i used ∙ l .starts;
               pool = ap length pool-is ∙ over-long (bytesOf (w .done ++ (t .it ∷ []))) (k₀ .pool) g;
             }
@@ -275,10 +279,10 @@ module _ (s : List ℕ) (from : ℕ) (cs : List Call) (k₀ k : Columns) (at i u
         unfolding written
         fill-next =
             let e = w .is in
-            let c₁ = column kindOf (k₀ .kinds) (k .kinds) kind (ap (λ (x : Columns). x .kinds) e) (t .kind-is) (ready .kinds) in
-            let c₂ = column firstIn (k₀ .firsts) (k .firsts) a (ap (λ (x : Columns). x .firsts) e) (t .first-is) (ready .firsts) in
-            let c₃ = column secondIn (k₀ .seconds) (k .seconds) b (ap (λ (x : Columns). x .seconds) e) (t .second-is) (ready .seconds) in
-            let c₄ = column thirdIn (k₀ .thirds) (k .thirds) c (ap (λ (x : Columns). x .thirds) e) (t .third-is) (ready .thirds) in
+            let c₁ = column kindOf (k₀ .kinds) (k .kinds) (row .kind) (ap (λ (x : Columns). x .kinds) e) (t .kind-is) (ready .kinds) in
+            let c₂ = column firstIn (k₀ .firsts) (k .firsts) (row .first) (ap (λ (x : Columns). x .firsts) e) (t .first-is) (ready .firsts) in
+            let c₃ = column secondIn (k₀ .seconds) (k .seconds) (row .second) (ap (λ (x : Columns). x .seconds) e) (t .second-is) (ready .seconds) in
+            let c₄ = column thirdIn (k₀ .thirds) (k .thirds) (row .third) (ap (λ (x : Columns). x .thirds) e) (t .third-is) (ready .thirds) in
             let m : i + 2 + 1 ≡ i + 1 + 2 = omega arith in
             record {
               done = w .done ++ (t .it ∷ []);

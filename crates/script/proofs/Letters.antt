@@ -18,7 +18,7 @@ use Rattle.text.specs.Fields.{fieldTo}
 use Rattle.text.specs.Numbers.{Decimal, number, none, numberOf, numberAt}
 use Rattle.text.specs.Pairs.{isPairs, pairValues, pairsAt}
 use Rattle.script.specs.Calls.{Call, begin, end, mark, program, erase, barrier, Meaning, call, malformed, beginWith, markWith, eraseWith, programWith, isBytes, isKind, callOf}
-use Rattle.script.specs.Inner.{Cells, cells, broken, ontoCell, pushCell, cellsOf, inFront, meaningIn, Opened, Taken}
+use Rattle.script.specs.Inner.{Cells, cells, broken, ontoCell, pushCell, cellsOf, inFront, meaningIn, Opened, rowOf, Taken}
 use Rattle.script.proofs.Told.{Inner, inner-value, inner-none, Last, last-value, last-none, PairsLast, pairs-value, pairs-none}
 
 -- ---- the letter and the byte after it
@@ -59,20 +59,20 @@ module _ (s : List ℕ) (from k : ℕ) (w : Opened s from k 10) where
   alone-cells : cellsOf (drop from s) ≡ cellsOf (k ∷ 10 ∷ drop (from + 2) s)
   alone-cells = ap cellsOf (w .is)
 
-  alone-end : k ≡ 78 → Taken s from k 0 0 0 (from + 2) 0 (from + 2)
+  alone-end : k ≡ 78 → Taken s from (rowOf k 0 0 0 (from + 2) 0) (from + 2)
   unfolding cellsOf callOf
   alone-end e = record { it = end; field = 78 ∷ []; others = []; is = alone-cells ∙ rw e; means = refl; kind-is = e; first-is = refl; second-is = refl; third-is = refl; size-is = refl; bytes = refl; small = omega arith; forward = omega arith; inside = w .inside }
 
-  alone-barrier : k ≡ 83 → Taken s from k 0 0 0 (from + 2) 0 (from + 2)
+  alone-barrier : k ≡ 83 → Taken s from (rowOf k 0 0 0 (from + 2) 0) (from + 2)
   unfolding cellsOf callOf
   alone-barrier e = record { it = barrier; field = 83 ∷ []; others = []; is = alone-cells ∙ rw e; means = refl; kind-is = e; first-is = refl; second-is = refl; third-is = refl; size-is = refl; bytes = refl; small = omega arith; forward = omega arith; inside = w .inside }
 
-  row-by : (t u : Bool) → eqb k 78 ≡ t → eqb k 83 ≡ u → (not t && not u) ≡ false → Taken s from k 0 0 0 (from + 2) 0 (from + 2)
+  row-by : (t u : Bool) → eqb k 78 ≡ t → eqb k 83 ≡ u → (not t && not u) ≡ false → Taken s from (rowOf k 0 0 0 (from + 2) 0) (from + 2)
   row-by true u p q e = alone-end (eqb-true k 78 p)
   row-by false true p q e = alone-barrier (eqb-true k 83 q)
   row-by false false p q e = absurd (let z : _≡_ {A = ℕ} 0 1 = cc in omega arith)
 
-  pub alone-row : (not (eqb k 78) && not (eqb k 83)) ≡ false → Taken s from k 0 0 0 (from + 2) 0 (from + 2)
+  pub alone-row : (not (eqb k 78) && not (eqb k 83)) ≡ false → Taken s from (rowOf k 0 0 0 (from + 2) 0) (from + 2)
   alone-row e = row-by (eqb k 78) (eqb k 83) refl refl e
 
   pub alone-faulty : (not (eqb k 78) && not (eqb k 83)) ≡ true → meaningIn (cellsOf (drop from s)) ≡ malformed
@@ -108,7 +108,7 @@ begin-missed (cells f [] rest) n = rw (n f rest refl)
 begin-missed (cells f (g ∷ gs) rest) n = refl
 
 module _ (s : List ℕ) (from : ℕ) (w : Opened s from 66 9) (r : Number) (e : r ≡ numberAt (from + 2) (fieldTo 10 (drop (from + 2) s))) where
-  pub begin-taken : (id next : ℕ) → r ≡ Value id next → Taken s from 66 id 0 0 next 0 next
+  pub begin-taken : (id next : ℕ) → r ≡ Value id next → Taken s from (rowOf 66 id 0 0 next 0) next
   unfolding callOf
   begin-taken id next q =
       let l = last-value s (from + 2) r id next e q in
@@ -147,7 +147,7 @@ module _ (s : List ℕ) (from : ℕ) (w : Opened s from 69 9) (r : Number) (e : 
         let i = inner-value s (from + 2) r offset at e q in
         ap meaningIn (fronted s from 69 (omega arith) w ∙ ap (inFront (69 ∷ [])) (i .is)) ∙ erase-missed-2 (i .f) (cellsOf (drop at s)) (last-none s at t d p)
 
-    pub erase-taken : (len next : ℕ) → t ≡ Value len next → Taken s from 69 offset len 0 next 0 next
+    pub erase-taken : (len next : ℕ) → t ≡ Value len next → Taken s from (rowOf 69 offset len 0 next 0) next
     unfolding callOf
     erase-taken len next p =
         let i = inner-value s (from + 2) r offset at e q in
@@ -205,7 +205,7 @@ module _ (s : List ℕ) (from : ℕ) (w : Opened s from 77 9) (r : Number) (e : 
           let j = inner-value s at t low past d p in
           ap meaningIn (fronted s from 77 (omega arith) w ∙ ap (inFront (77 ∷ [])) (i .is ∙ ap (inFront (i .f)) (j .is))) ∙ mark-missed-3 (i .f) (j .f) (cellsOf (drop past s)) (last-none s past u c o)
 
-      pub mark-taken : (high next : ℕ) → u ≡ Value high next → Taken s from 77 id low high next 0 next
+      pub mark-taken : (high next : ℕ) → u ≡ Value high next → Taken s from (rowOf 77 id low high next 0) next
       unfolding callOf
       mark-taken high next o =
           let i = inner-value s (from + 2) r id at e q in
@@ -268,7 +268,7 @@ module _ (s : List ℕ) (from : ℕ) (w : Opened s from 80 9) (r : Number) (e : 
           program-long : (f g rest : List ℕ) → isBytes g ≡ false → Missed 80 (inFront f (cells g [] rest))
           program-long f g rest b = program-missed-2 f (cells g [] rest) (λ h′ rest′ c. let a : h′ ≡ g = cc in rw a b)
 
-      pub program-taken : count ≤ 4096 → Taken s from 80 offset count 0 start count next
+      pub program-taken : count ≤ 4096 → Taken s from (rowOf 80 offset count 0 start count) next
       unfolding callOf
       program-taken h =
           let i = inner-value s (from + 2) r offset start e q in

@@ -13,7 +13,8 @@ use Rattle.basics.proofs.Scans.{at-step}
 use Rattle.text.specs.Lines.{TextLine, ended, unended, linesOf, fieldsOf}
 use Rattle.script.specs.declared.Head.{Head}
 use Rattle.script.specs.declared.Line.{Line}
-use Rattle.script.specs.declared.Line.the-variants.{Row, Faulty}
+use Rattle.script.specs.declared.Line.the-variants.{Call as Called, Faulty}
+use Rattle.script.specs.declared.Row.{Row}
 use Rattle.script.specs.declared.First.{First}
 use Rattle.script.specs.declared.First.the-variants.{Given, NoHead}
 use Rattle.script.specs.declared.Checked.{Checked}
@@ -51,9 +52,9 @@ line-faulty s at n h m =
     ap (λ (l : List ℕ). readLines n (linesOf l)) e
     ∙ faulty-by (cellsOf (getD s at 0 ∷ drop (at + 1) s)) n (getD s at 0) (drop (at + 1) s) refl (ap (λ (l : List ℕ). meaningIn (cellsOf l)) (sym e) ∙ m)
 
-pub line-taken : (s : List ℕ) (at k a b c start size next n : ℕ) (w : Taken s at k a b c start size next)
+pub line-taken : (s : List ℕ) (at : ℕ) (row : Row) (next n : ℕ) (w : Taken s at row next)
     → readLines n (linesOf (drop at s)) ≡ callThen (w .it) (readLines (n + 1) (linesOf (drop next s)))
-line-taken s at k a b c start size next n w =
+line-taken s at row next n w =
     let v = cells-split (drop at s) (w .field) (w .others) (drop next s) (w .is) in
     ap (readLines n) (v .is) ∙ line-by n (ended (v .line)) (linesOf (drop next s)) (call (w .it)) (meant (v .line) (w .field) (w .others) (v .fields) ∙ w .means)
 
@@ -62,8 +63,8 @@ unfolding readLines linesOf
 no-lines s at n h = rw (drop-of-length-le s {i = at} h)
 
 -- a line that was read, as the reader's answer tells it
-pub row-taken : (s : List ℕ) (at : ℕ) (r : Line) (k x y z start size next : ℕ) → r ≡ Row k x y z start size next → Reads s at r → Taken s at k x y z start size next
-row-taken s at r k x y z start size next q v = rw q at v
+pub row-taken : (s : List ℕ) (at : ℕ) (r : Line) (row : Row) (next : ℕ) → r ≡ Called row next → Reads s at r → Taken s at row next
+row-taken s at r row next q v = rw q at v
 
 -- ---- check_lines: what was counted, and what follows
 
@@ -95,10 +96,10 @@ module _ (s : List ℕ) (from at n b : ℕ) (w : Sofar s from at n b) where
         let m : meaningIn (cellsOf (drop at s)) ≡ malformed = rw q at v in
         sym (w .is ∙ ap (checkedFrom n b) (line-faulty s at (n + 2) h m))
 
-    module _ (k x y z start size next : ℕ) (q : r ≡ Row k x y z start size next) (v : Reads s at r) where
-      pub sofar-next : Sofar s from next (n + 1) (b + size)
+    module _ (row : Row) (next : ℕ) (q : r ≡ Called row next) (v : Reads s at r) where
+      pub sofar-next : Sofar s from next (n + 1) (b + row .size)
       sofar-next =
-          let t = row-taken s at r k x y z start size next q v in
+          let t = row-taken s at r row next q v in
           let f = t .forward in
           let m = t .small in
           let a = w .few in
@@ -107,7 +108,7 @@ module _ (s : List ℕ) (from at n b : ℕ) (w : Sofar s from at n b) where
           record {
             is =
                 w .is
-                ∙ ap (checkedFrom n b) (line-taken s at k x y z start size next (n + 2) t)
+                ∙ ap (checkedFrom n b) (line-taken s at row next (n + 2) t)
                 ∙ count-step n b (t .it) (readLines (n + 2 + 1) (linesOf (drop next s)))
                 ∙ ap₂ (λ (d i : ℕ). checkedFrom (n + 1) (b + d) (readLines i (linesOf (drop next s)))) (sym (t .size-is)) l;
             inside = t .inside;

@@ -13,7 +13,8 @@ use Rattle.text.specs.Numbers.{number, numberOf}
 use Rattle.text.specs.Pairs.{pairValues, decoded}
 use Rattle.script.specs.declared.Head.{Head}
 use Rattle.script.specs.declared.Line.{Line}
-use Rattle.script.specs.declared.Line.the-variants.{Row, Faulty}
+use Rattle.script.specs.declared.Line.the-variants.{Call as Called, Faulty}
+use Rattle.script.specs.declared.Row.{Row}
 use Rattle.script.specs.declared.Units.{Units}
 use Rattle.script.specs.declared.Units.the-variants.{Four, NoUnits}
 use Rattle.script.specs.declared.First.{First}
@@ -67,25 +68,28 @@ pub record Opened (s : List ℕ) (from letter end : ℕ) : Type 0 where
   pub is : drop from s ≡ letter ∷ end ∷ drop (from + 2) s
   pub inside : from + 2 ≤ length s
 
--- the row of the line's call, the place of its bytes in the text and how many they are, and the place past its LF
-pub record Taken (s : List ℕ) (from kind first second third start size next : ℕ) : Type 0 where
+abbrev pub rowOf : (kind first second third start size : ℕ) → Row
+rowOf kind first second third start size = record { kind = kind; first = first; second = second; third = third; start = start; size = size }
+
+-- the row is that of the line's call, its bytes start at a place of the text, and the next place is past the line's LF
+pub record Taken (s : List ℕ) (from : ℕ) (row : Row) (next : ℕ) : Type 0 where
   pub it : Call
   pub field : List ℕ
   pub others : List (List ℕ)
   pub is : cellsOf (drop from s) ≡ cells field others (drop next s)
   pub means : callOf (field ∷ others) ≡ call it
-  pub kind-is : kind ≡ kindOf it
-  pub first-is : first ≡ firstIn it
-  pub second-is : second ≡ secondIn it
-  pub third-is : third ≡ thirdIn it
-  pub size-is : size ≡ length (bytesIn it)
-  pub bytes : bytesIn it ≡ take size (pairValues (drop start s))
-  pub small : size ≤ 4096
+  pub kind-is : row .kind ≡ kindOf it
+  pub first-is : row .first ≡ firstIn it
+  pub second-is : row .second ≡ secondIn it
+  pub third-is : row .third ≡ thirdIn it
+  pub size-is : row .size ≡ length (bytesIn it)
+  pub bytes : bytesIn it ≡ take (row .size) (pairValues (drop (row .start) s))
+  pub small : row .size ≤ 4096
   pub forward : from < next
   pub inside : next ≤ length s
 
 abbrev pub Reads : List ℕ → (from : ℕ) → Line → Type 0
-Reads s from (Row kind first second third start size next) = Taken s from kind first second third start size next
+Reads s from (Called row next) = Taken s from row next
 Reads s from Faulty = meaningIn (cellsOf (drop from s)) ≡ malformed
 
 -- ---- line 1

@@ -48,30 +48,31 @@ pub enum ReadScript {
     Refused { number: u32, line: u32 },
 }
 
-// A line after the first: its call's row, where in the text its bytes start and how many there are, and the place past
-// the line; or that the line is faulty.
+// A call as a line says it: its row of the columns, and where in the text its bytes start and how many there are.
+struct Row {
+    kind: u8,
+    first: u32,
+    second: u32,
+    third: u32,
+    start: usize,
+    size: u32,
+}
+
+// A line after the first: its call and the next place, past the line; or that the line is faulty.
 enum Line {
-    Row {
-        kind: u8,
-        first: u32,
-        second: u32,
-        third: u32,
-        start: usize,
-        size: u32,
-        next: usize,
-    },
+    Call(Row, usize),
     Faulty,
 }
 
-// The four numbers of line 1, and the place past them.
+// The four numbers of line 1, and the next place.
 enum Units {
-    Four { geometry: Geometry, next: usize },
+    Four(Geometry, usize),
     NoUnits,
 }
 
-// Line 1, and the place past it.
+// Line 1, and the next place.
 enum First {
-    Given { head: Head, next: usize },
+    Given(Head, usize),
     NoHead,
 }
 
@@ -105,17 +106,16 @@ fn alone_line(text: &[u8], from: usize, kind: u8) -> Line
     if (kind != b'N') & (kind != b'S') {
         return Line::Faulty;
     }
-    // One way for both: which of the two it is cannot be guessed.
     let next = from + 2;
-    Line::Row {
+    let row = Row {
         kind,
         first: 0,
         second: 0,
         third: 0,
         start: next,
         size: 0,
-        next,
-    }
+    };
+    Line::Call(row, next)
 }
 
 // `B` id begins.
@@ -124,18 +124,18 @@ fn begin_line(text: &[u8], from: usize) -> Line
     ensures { λ r. ⌜ Reads (now (text .entry)) from r ⌝ }
 {
     let id_read = text::read_number(text, from + 2, LF);
-    let Number::Value { value: id, next } = id_read else {
+    let Number::Value(id, next) = id_read else {
         return Line::Faulty;
     };
-    Line::Row {
+    let row = Row {
         kind: b'B',
         first: id,
         second: 0,
         third: 0,
         start: next,
         size: 0,
-        next,
-    }
+    };
+    Line::Call(row, next)
 }
 
 // `M` id from to marks a range.
@@ -144,34 +144,26 @@ fn mark_line(text: &[u8], from: usize) -> Line
     ensures { λ r. ⌜ Reads (now (text .entry)) from r ⌝ }
 {
     let id_read = text::read_number(text, from + 2, TAB);
-    let Number::Value {
-        value: id,
-        next: at,
-    } = id_read
-    else {
+    let Number::Value(id, at) = id_read else {
         return Line::Faulty;
     };
     let first_read = text::read_number(text, at, TAB);
-    let Number::Value {
-        value: first,
-        next: past,
-    } = first_read
-    else {
+    let Number::Value(first, past) = first_read else {
         return Line::Faulty;
     };
     let last_read = text::read_number(text, past, LF);
-    let Number::Value { value: last, next } = last_read else {
+    let Number::Value(last, next) = last_read else {
         return Line::Faulty;
     };
-    Line::Row {
+    let row = Row {
         kind: b'M',
         first: id,
         second: first,
         third: last,
         start: next,
         size: 0,
-        next,
-    }
+    };
+    Line::Call(row, next)
 }
 
 // `E` offset length.
@@ -180,26 +172,22 @@ fn erase_line(text: &[u8], from: usize) -> Line
     ensures { λ r. ⌜ Reads (now (text .entry)) from r ⌝ }
 {
     let offset_read = text::read_number(text, from + 2, TAB);
-    let Number::Value {
-        value: offset,
-        next: at,
-    } = offset_read
-    else {
+    let Number::Value(offset, at) = offset_read else {
         return Line::Faulty;
     };
     let length_read = text::read_number(text, at, LF);
-    let Number::Value { value: len, next } = length_read else {
+    let Number::Value(len, next) = length_read else {
         return Line::Faulty;
     };
-    Line::Row {
+    let row = Row {
         kind: b'E',
         first: offset,
         second: len,
         third: 0,
         start: next,
         size: 0,
-        next,
-    }
+    };
+    Line::Call(row, next)
 }
 
 // `P` offset bytes: pairs, at most 4,096 of them.
@@ -208,30 +196,26 @@ fn program_line(text: &[u8], from: usize) -> Line
     ensures { λ r. ⌜ Reads (now (text .entry)) from r ⌝ }
 {
     let offset_read = text::read_number(text, from + 2, TAB);
-    let Number::Value {
-        value: offset,
-        next: start,
-    } = offset_read
-    else {
+    let Number::Value(offset, start) = offset_read else {
         return Line::Faulty;
     };
     let bytes_read = text::read_pairs(text, start);
-    let Pairs::Paired { count, next } = bytes_read else {
+    let Pairs::Paired(count, next) = bytes_read else {
         return Line::Faulty;
     };
     if 4096 < count {
         return Line::Faulty;
     }
     let size = count as u32;
-    Line::Row {
+    let row = Row {
         kind: b'P',
         first: offset,
         second: size,
         third: 0,
         start,
         size,
-        next,
-    }
+    };
+    Line::Call(row, next)
 }
 
 // The line that starts at a place. A line whose kind letter is none of these is faulty.
@@ -267,35 +251,19 @@ fn read_units(text: &[u8], at: usize) -> Units
     ensures { λ r. ⌜ ReadsUnits (now (text .entry)) at r ⌝ }
 {
     let capacity_read = text::read_number(text, at, TAB);
-    let Number::Value {
-        value: capacity,
-        next: after_capacity,
-    } = capacity_read
-    else {
+    let Number::Value(capacity, after_capacity) = capacity_read else {
         return Units::NoUnits;
     };
     let erase_read = text::read_number(text, after_capacity, TAB);
-    let Number::Value {
-        value: erase_size,
-        next: after_erase,
-    } = erase_read
-    else {
+    let Number::Value(erase_size, after_erase) = erase_read else {
         return Units::NoUnits;
     };
     let program_read = text::read_number(text, after_erase, TAB);
-    let Number::Value {
-        value: program_size,
-        next: after_program,
-    } = program_read
-    else {
+    let Number::Value(program_size, after_program) = program_read else {
         return Units::NoUnits;
     };
     let read_read = text::read_number(text, after_program, TAB);
-    let Number::Value {
-        value: read_size,
-        next,
-    } = read_read
-    else {
+    let Number::Value(read_size, next) = read_read else {
         return Units::NoUnits;
     };
     let geometry = Geometry {
@@ -304,7 +272,7 @@ fn read_units(text: &[u8], at: usize) -> Units
         program_size,
         read_size,
     };
-    Units::Four { geometry, next }
+    Units::Four(geometry, next)
 }
 
 // `G`, the four numbers, `a` or `r`, `s` or `c`.
@@ -312,37 +280,25 @@ fn read_head(text: &[u8]) -> First
     ensures { λ r. ⌜ ReadsHead (now (text .entry)) r ⌝ }
 {
     let kind_read = text::read_letter(text, 0, TAB);
-    let Letter::One {
-        byte: kind,
-        next: at,
-    } = kind_read
-    else {
+    let Letter::One(kind, at) = kind_read else {
         return First::NoHead;
     };
     if kind != b'G' {
         return First::NoHead;
     }
     let units = read_units(text, at);
-    let Units::Four {
-        geometry,
-        next: after_units,
-    } = units
-    else {
+    let Units::Four(geometry, after_units) = units else {
         return First::NoHead;
     };
     let rule_read = text::read_letter(text, after_units, TAB);
-    let Letter::One {
-        byte: rule,
-        next: after_rule,
-    } = rule_read
-    else {
+    let Letter::One(rule, after_rule) = rule_read else {
         return First::NoHead;
     };
     if (rule != b'a') & (rule != b'r') {
         return First::NoHead;
     }
     let mode_read = text::read_letter(text, after_rule, LF);
-    let Letter::One { byte: mode, next } = mode_read else {
+    let Letter::One(mode, next) = mode_read else {
         return First::NoHead;
     };
     if (mode != b's') & (mode != b'c') {
@@ -353,7 +309,7 @@ fn read_head(text: &[u8]) -> First
         rejected: rule == b'r',
         carries_on: mode == b'c',
     };
-    First::Given { head, next }
+    First::Given(head, next)
 }
 
 // 10 for a capacity above 16,384, or 0.
@@ -398,20 +354,11 @@ fn check_lines(text: &[u8], from: usize) -> Checked
     let mut bytes: u32 = 0;
     while at < text.len() {
         let line = read_line(text, at);
-        let Line::Row {
-            kind: _,
-            first: _,
-            second: _,
-            third: _,
-            start: _,
-            size,
-            next,
-        } = line
-        else {
+        let Line::Call(row, next) = line else {
             return Checked::Fault { line: calls + 2 };
         };
         calls += 1;
-        bytes += size;
+        bytes += row.size;
         at = next;
     }
     Checked::Lines { calls, bytes }
@@ -425,12 +372,15 @@ fn check(text: &[u8]) -> Whole
         return Whole::Bad { number: 9, line: 0 };
     }
     let first = read_head(text);
-    let First::Given { head, next: body } = first else {
+    let First::Given(head, body) = first else {
         return Whole::Bad { number: 8, line: 1 };
     };
-    let number = head_refusal(head.geometry);
-    if number != 0 {
-        return Whole::Bad { number, line: 1 };
+    let refusal = head_refusal(head.geometry);
+    if refusal != 0 {
+        return Whole::Bad {
+            number: refusal,
+            line: 1,
+        };
     }
     let checked = check_lines(text, body);
     match checked {
@@ -475,27 +425,17 @@ fn fill_lines(
     let mut used: usize = 0;
     while at < text.len() {
         let line = read_line(text, at);
-        let Line::Row {
-            kind,
-            first,
-            second,
-            third,
-            start,
-            size,
-            next,
-        } = line
-        else {
+        let Line::Call(row, next) = line else {
             return;
         };
-        let row = i + 1;
-        let free = used + size as usize;
-        kinds[i] = kind;
-        firsts[i] = first;
-        seconds[i] = second;
-        thirds[i] = third;
+        let free = used + row.size as usize;
+        kinds[i] = row.kind;
+        firsts[i] = row.first;
+        seconds[i] = row.second;
+        thirds[i] = row.third;
         starts[i] = used as u32;
-        store_bytes(text, start, pool, used, free);
-        i = row;
+        store_bytes(text, row.start, pool, used, free);
+        i += 1;
         used = free;
         at = next;
     }
@@ -565,7 +505,7 @@ pub fn read_script(
             calls,
             bytes,
         } => {
-            let room = room_refusal(
+            let number = room_refusal(
                 kinds.len(),
                 firsts.len(),
                 seconds.len(),
@@ -575,11 +515,8 @@ pub fn read_script(
                 calls as usize,
                 bytes as usize,
             );
-            if room != 0 {
-                return ReadScript::Refused {
-                    number: room,
-                    line: 0,
-                };
+            if number != 0 {
+                return ReadScript::Refused { number, line: 0 };
             }
             fill_lines(text, body, kinds, firsts, seconds, thirds, starts, pool);
             ReadScript::Read { head, calls, bytes }

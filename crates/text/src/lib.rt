@@ -17,21 +17,21 @@ pub const TAB: u8 = 9;
 
 pub const LF: u8 = 10;
 
-// What a field says as a number, and the place past the byte that ends the field.
+// What a field says as a number, and the next place: past the byte that ends the field.
 pub enum Number {
-    Value { value: u32, next: usize },
+    Value(u32, usize),
     NoNumber,
 }
 
-// A field of one byte, and the place past the byte that ends the field.
+// A field of one byte, and the next place.
 pub enum Letter {
-    One { byte: u8, next: usize },
+    One(u8, usize),
     NoLetter,
 }
 
-// How many hexadecimal pairs a field is, and the place past the byte that ends the field.
+// How many hexadecimal pairs a field is, and the next place.
 pub enum Pairs {
-    Paired { count: usize, next: usize },
+    Paired(usize, usize),
     NoPairs,
 }
 
@@ -59,10 +59,7 @@ pub fn read_letter(text: &[u8], from: usize, end: u8) -> Letter
     if text[close] != end {
         return Letter::NoLetter;
     }
-    Letter::One {
-        byte,
-        next: from + 2,
-    }
+    Letter::One(byte, from + 2)
 }
 
 // The field from `from` up to the first `end`, as a number: a u32, decimal, without leading zeros.
@@ -87,10 +84,7 @@ pub fn read_number(text: &[u8], from: usize, end: u8) -> Number
     if text[past] != end {
         return Number::NoNumber;
     }
-    Number::Value {
-        value: 0,
-        next: past + 1,
-    }
+    Number::Value(0, past + 1)
 }
 
 fn wide(b: u8) -> u64
@@ -108,10 +102,7 @@ fn digits(text: &[u8], from: usize, end: u8) -> Number
     while i < text.len() {
         let b = text[i];
         if b == end {
-            return Number::Value {
-                value: value as u32,
-                next: i + 1,
-            };
+            return Number::Value(value as u32, i + 1);
         }
         let d = wide(b);
         if d < 48 {
@@ -202,10 +193,7 @@ pub fn read_pairs(text: &[u8], from: usize) -> Pairs
     if size % 2 != 0 {
         return Pairs::NoPairs;
     }
-    Pairs::Paired {
-        count: size / 2,
-        next: stop + 1,
-    }
+    Pairs::Paired(size / 2, stop + 1)
 }
 
 // The value of a hexadecimal digit, and 0 for any other byte.

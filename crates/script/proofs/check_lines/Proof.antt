@@ -38,12 +38,12 @@ add-calls c = search (needs, passes)
 
 add-bytes : tie.Need-add-bytes Inv-loop μ-loop
 add-bytes c =
-    let t = row-taken (now (c .before .before .before .before .before .before .before .args .text)) (c .before .before .before .before .before .loop .at) _ _ _ _ _ _ _ _ (c .before .line .given .1) (c .before .before .before .read-line .ensures) in
+    let t = row-taken (now (c .before .before .before .before .before .before .before .before .args .text)) (c .before .before .before .before .before .before .loop .at) _ _ _ (c .before .before .line .given .1) (c .before .before .before .before .read-line .ensures) in
     omega (arith, t .small)
 
 loop-less : tie.Need-loop-less Inv-loop μ-loop
 loop-less c =
-    let t = row-taken (now (c .before .before .before .before .before .before .before .args .text)) (c .before .before .before .before .before .loop .at) _ _ _ _ _ _ _ _ (c .before .line .given .1) (c .before .before .before .read-line .ensures) in
+    let t = row-taken (now (c .before .before .before .before .before .before .before .before .args .text)) (c .before .before .before .before .before .before .loop .at) _ _ _ (c .before .before .line .given .1) (c .before .before .before .before .read-line .ensures) in
     omega (arith, t .forward)
 
 loop-again : tie.Need-loop-again Inv-loop μ-loop

@@ -21,14 +21,14 @@ abbrev μ-loop : tie.MeasureT-loop
 μ-loop text from kinds₀ firsts₀ seconds₀ thirds₀ starts₀ pool₀ at₀ i₀ used₀ kinds firsts seconds thirds starts pool at i used = length text - at
 
 -- where a line was read: the turn's start, and room for the line's row and bytes
-abbrev turn : tie.After-known-told Inv-loop μ-loop → tie.At-loop Inv-loop μ-loop
-turn c = c .before .before .before .before .before
+abbrev turn : tie.After-struct-known Inv-loop μ-loop → tie.At-loop Inv-loop μ-loop
+turn c = c .before .before .before .before .before .before
 
-room : (c : tie.After-known-told Inv-loop μ-loop)
-    → Roomy (columns (turn c .loop .kinds) (turn c .loop .firsts) (turn c .loop .seconds) (turn c .loop .thirds) (turn c .loop .starts) (turn c .loop .pool)) (turn c .loop .i) (turn c .loop .used) (c .before .line .given .0 .1 .1 .1 .1 .1 .0)
+room : (c : tie.After-struct-known Inv-loop μ-loop)
+    → Roomy (columns (turn c .loop .kinds) (turn c .loop .firsts) (turn c .loop .seconds) (turn c .loop .thirds) (turn c .loop .starts) (turn c .loop .pool)) (turn c .loop .i) (turn c .loop .used) (c .before .before .line .given .0 .0 .size)
 room c =
-    fill-room _ _ _ _ _ _ _ _ (turn c .before .before .before .before .before .before .before .before .pre) (turn c .loop .inv .2) (turn c .loop .inv .1) (c .before .before .before .before .loop-test .taken)
-    _ _ _ _ _ _ _ _ (c .before .line .given .1) (c .before .before .before .read-line .ensures)
+    fill-room _ _ _ _ _ _ _ _ (turn c .before .before .before .before .before .before .before .before .pre) (turn c .loop .inv .2) (turn c .loop .inv .1) (c .before .before .before .before .before .loop-test .taken)
+    _ _ _ (c .before .before .line .given .1) (c .before .before .before .before .read-line .ensures)
 
 loop-holds : tie.Need-loop-holds Inv-loop μ-loop
 loop-holds c = (search needs, same-long _, fill-start _ _ _ _ _ _ _ _ _ (c .before .before .before .before .before .before .before .pre))
@@ -62,9 +62,6 @@ same-length-6 c = search needs
 
 returns : tie.Need-returns Inv-loop μ-loop
 returns c = fill-faulty _ _ _ _ _ _ _ _ (c .before .before .before .before .before .before .before .before .before .before .before .before .pre) (c .before .before .before .before .loop .inv .2) (c .before .before .before .before .loop .inv .1) (c .before .before .before .loop-test .taken) _ (c .enum-told .given .1) (c .before .before .read-line .ensures)
-
-add-row : tie.Need-add-row Inv-loop μ-loop
-add-row c = omega (arith, room c .rows)
 
 cast-free : tie.Need-cast-free Inv-loop μ-loop
 cast-free c = search needs
@@ -105,27 +102,30 @@ slice-write-starts c = room c .starts
 store-bytes-requires : tie.Need-store-bytes-requires Inv-loop μ-loop
 store-bytes-requires c κs = (omega arith, room (c .before) .pool)
 
+add-i : tie.Need-add-i Inv-loop μ-loop
+add-i c = omega (arith, room (c .before .before .before .before) .rows)
+
 loop-less : tie.Need-loop-less Inv-loop μ-loop
 loop-less c =
     let told = c .before .before .before .before in
     let start = turn told .before .before .before .before .before .before .before .before in
     let loop = turn told .loop in
-    let test = told .before .before .before .before .loop-test .taken in
-    let line = told .before .line .given .1 in
-    let read = told .before .before .before .read-line .ensures in
-    omega (arith, row-taken (now (start .args .text)) (loop .at) _ _ _ _ _ _ _ _ line read .forward)
+    let test = told .before .before .before .before .before .loop-test .taken in
+    let line = told .before .before .line .given .1 in
+    let read = told .before .before .before .before .read-line .ensures in
+    omega (arith, row-taken (now (start .args .text)) (loop .at) _ _ _ line read .forward)
 
 loop-again : tie.Need-loop-again Inv-loop μ-loop
 loop-again c =
     let told = c .before .before .before .before in
     let start = turn told .before .before .before .before .before .before .before .before in
     let loop = turn told .loop in
-    let test = told .before .before .before .before .loop-test .taken in
-    let line = told .before .line .given .1 in
-    let read = told .before .before .before .read-line .ensures in (
-      row-taken (now (start .args .text)) (loop .at) _ _ _ _ _ _ _ _ line read .inside,
-      fill-same _ _ _ _ _ _ _ _ (start .pre) (loop .inv .2) (loop .inv .1) test _ _ _ _ _ _ _ _ line read _ (c .before .before .store-bytes .ensures),
-      fill-next _ _ _ _ _ _ _ _ (start .pre) (loop .inv .2) (loop .inv .1) test _ _ _ _ _ _ _ _ line read _ (c .before .before .store-bytes .ensures),
+    let test = told .before .before .before .before .before .loop-test .taken in
+    let line = told .before .before .line .given .1 in
+    let read = told .before .before .before .before .read-line .ensures in (
+      row-taken (now (start .args .text)) (loop .at) _ _ _ line read .inside,
+      fill-same _ _ _ _ _ _ _ _ (start .pre) (loop .inv .2) (loop .inv .1) test _ _ _ line read _ (c .before .before .store-bytes .ensures),
+      fill-next _ _ _ _ _ _ _ _ (start .pre) (loop .inv .2) (loop .inv .1) test _ _ _ line read _ (c .before .before .store-bytes .ensures),
     )
 
 same-length-7 : tie.Need-same-length-7 Inv-loop μ-loop
@@ -166,7 +166,6 @@ fill-lines-spec =
     same-length-5
     same-length-6
     returns
-    add-row
     cast-free
     add-free
     slice-write-kinds
@@ -180,6 +179,7 @@ fill-lines-spec =
     mul-starts
     slice-write-starts
     store-bytes-requires
+    add-i
     loop-less
     loop-again
     same-length-7
