@@ -27,10 +27,10 @@ use text::TAB;
 
 // A script above this many bytes is refused with 9.
 pub const MOST_TEXT: usize = 65536;
-// Columns and a pool of these lengths are enough for every script: a line of a call takes at least two bytes, and a byte
-// of a program two digits. So 13 is for shorter ones alone.
+// Columns of this length are enough for every script: the line of a call takes at least two bytes. So 13 is for shorter
+// ones alone.
 pub const MOST_CALLS: usize = 32768;
-
+// And so is a pool of this length: a byte of a program takes two digits.
 pub const MOST_BYTES: usize = 32768;
 
 // What line 1 says: the device, whether a bit set without an erase is rejected (else absorbed), and whether the writer
