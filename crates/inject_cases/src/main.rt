@@ -1,7 +1,7 @@
 // Replays a sample of the Rust's crash points. Each list of operations has three lines: the erase and program units, the
 // operations' kinds, offsets and lengths and how many points there are; every point by its place, and the number that
-// refuses the place past the last; every point from the columns, and how many rows were written. The file stdout beside src/
-// has what the Rust answers to the same inputs, and was made by
+// refuses the place past the last; every point from the columns, and how many rows were written. The file stdout beside
+// src/ has what the Rust answers to the same inputs, and was made by
 //     tests/differential/run sample inject > crates/inject_cases/stdout
 // The tables and the order of the cases are those of `sample` in tests/differential/src/inject.rs.
 ghost use mathlib.Core.Path.{_≡_};

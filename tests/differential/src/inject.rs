@@ -90,7 +90,7 @@ struct Case {
 type Row = (u8, u32, u32);
 
 impl Case {
-    /// With columns for all points and some cells more, or, where those points are too many to list, with so many cells only.
+    /// With columns for all points and `spare` cells more, or, where the points are too many to list, with `spare` only.
     fn new(units: [u32; 4], rows: &[Row], spare: usize) -> Self {
         let mut case = Self {
             units,
@@ -253,8 +253,8 @@ fn row_of(point: Injection) -> [u64; 4] {
     [point.op as u64, progress, count, interruption]
 }
 
-/// The number that refuses the list, where the Rust has only what it cannot be handed: "a list of operations is tested for
-/// 12, then 27, then 11 and 13", and the geometry's 1 to 3 are lower. `equal` tells whether the lent columns are.
+/// The number that refuses the list. The Rust's geometry has 1 to 3, which are lower; the Rust cannot be handed the rest:
+/// "a list of operations is tested for 12, then 27, then 11 and 13". `equal` tells whether the lent columns are.
 fn refusal(case: &Case, equal: bool) -> u32 {
     if let Err(number) = geometry_of(case.units) {
         return number;
@@ -288,16 +288,17 @@ fn formula(case: &Case) -> u128 {
     1 + given.sum::<u128>()
 }
 
-/// The Rust lists the points where they are no more than these, or have room in the columns. Above, the count is held to the
-/// formula.
+/// The Rust lists the points where they are no more than these, or have room in the columns. Above, the count is held to
+/// the formula.
 const LISTED: u128 = 1 << 18;
 
 fn is_listed(case: &Case) -> bool {
     formula(case) <= LISTED.max(case.lent[0] as u128)
 }
 
-/// The places asked for: each, and past the end. Where the points are not listed, the first, the last and past the end. A list
-/// of more than `SHORT` operations is asked for a part of its places, since a lookup walks the operations; a refused one for two.
+/// The places asked for: each, and past the end. Where the points are not listed, the first, the last and past the end. A
+/// list of more than `SHORT` operations is asked for a part of its places, since a lookup walks the operations; a refused
+/// one for two.
 fn places_of(case: &Case) -> Vec<u64> {
     if refusal(case, true) != 0 {
         return vec![0, u64::MAX];
@@ -398,7 +399,7 @@ fn our_count(case: &Case, points: &mut u64) -> u32 {
 fn our_point(case: &Case, place: u64, point: &mut [u64]) -> u32 {
     let (kinds, offsets, lens) = (&case.kinds, &case.offsets, &case.lens);
     let [capacity, erase, program, read] = case.units;
-    // SAFETY: each pointer and length are those of a vector that nothing changes during the call, or of the slice lent here.
+    // SAFETY: each pointer and length are those of a vector that nothing changes during the call, or of the slice lent.
     unsafe {
         inject_at(
             kinds.as_ptr(),
@@ -598,12 +599,12 @@ fn faulty_case(random: &mut Random) -> Case {
             }
             6 => case.lent[column] = case.lent[column].saturating_sub(1),
             7 => case.lent[column] += 1,
-            8 | 10 | 11 => {
+            8..=10 => {
                 let less = random.pick(&[1, 2, 3, 4]);
                 case.lent = case.lent.map(|cells| cells.saturating_sub(less));
             }
             // Few, since it takes a thousand rows.
-            9 if random.below(20) == 0 => {
+            11 if random.below(20) == 0 => {
                 let rows = MOST + random.below(3) as usize;
                 case.kinds.resize(rows, random.pick(&[BARRIER, BARRIER, 3]));
                 case.offsets.resize(rows, 0);
