@@ -1,0 +1,3 @@
+-- Theorem 1 of demand 3, and what it rests on.
+pub mod Cells
+pub mod Steps

@@ -1,0 +1,3 @@
+-- Document 01, "Demand 3": a list of calls through the session. Definitions only; assumes nothing.
+pub mod Threaded
+pub mod Claim
