@@ -3,3 +3,4 @@ pub mod Cells
 pub mod Steps
 pub mod Held
 pub mod Alike
+pub mod Calls
