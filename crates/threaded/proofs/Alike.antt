@@ -72,12 +72,12 @@ log-long l e =
       answered-even = eqb-true (length (l .answered)) k (not-false (eqb (length (l .answered)) k) (false-right (u1 || u2 || u3 || u4) u5 no));
     }
 
-record MarksLong (m : Marks) : Type 0 where
-  codes-long : 512 ≤ length (m .codes)
-  ids-even : length (m .ids) ≡ length (m .codes)
-  places-even : length (m .places) ≡ length (m .codes)
+pub record MarksLong (m : Marks) : Type 0 where
+  pub codes-long : 512 ≤ length (m .codes)
+  pub ids-even : length (m .ids) ≡ length (m .codes)
+  pub places-even : length (m .places) ≡ length (m .codes)
 
-marks-long : (m : Marks) → marksTest m ≡ 0 → MarksLong m
+pub marks-long : (m : Marks) → marksTest m ≡ 0 → MarksLong m
 unfolding marksLengthTest
 marks-long m e =
     let k = length (m .codes) in
@@ -121,7 +121,7 @@ pub record Alike (t : Told) (s : Session) (r : Run) : Type 0 where
   pub early : (k : ℕ) → s .counters .operations ≤ k → isArmed (armedOn (t .armed) k) ≡ true → s .counters .withheld ≡ 0
 
 -- a column with one more
-column-more : {A : Type 0} (column column′ : List ℕ) (n n′ value : ℕ) (f : A → ℕ) (xs : List A) (x : A) → n < length column → n′ ≡ n + 1
+pub column-more : {A : Type 0} (column column′ : List ℕ) (n n′ value : ℕ) (f : A → ℕ) (xs : List A) (x : A) → n < length column → n′ ≡ n + 1
     → column′ ≡ set column n value → value ≡ f x → take n column ≡ map f xs → take n′ column′ ≡ map f (xs ++ (x ∷ []))
 column-more column column′ n n′ value f xs x h e c v p =
     ap₂ (λ (k : ℕ) (l : List ℕ). take k l) e c ∙ column-stored column n value h ∙ ap₂ (λ (l : List ℕ) (k : ℕ). l ++ (k ∷ [])) p v ∙ sym (map-append f xs (x ∷ []))

@@ -40,7 +40,7 @@ use Rattle.plain.specs.Plain.{Act, program, erase, barrier, Call, act, mark, Op
 use Rattle.plain.specs.Plain
 use Rattle.threaded.specs.Threaded.{Session, Answered, afterWrite, afterBarrier, afterMark, answered}
 use Rattle.threaded.proofs.Steps.{met, stopBy, taken-by, Whole, Steps, program-steps, erase-steps, barrier-steps}
-use Rattle.threaded.proofs.Alike.{codeOf, idOf, Alike, step-alike}
+use Rattle.threaded.proofs.Alike.{codeOf, idOf, MarksLong, marks-long, Alike, column-more, step-alike}
 
 -- ---- the tests
 
@@ -228,3 +228,85 @@ module _ (t : Told) (s : Session) (r : Run) (z : Alike t s r) where
       let p : suc n ≡ refusal t r barrier = sym e ∙ barrier-number t s r z in
       act-refused barrier (suc n) p _ (suc-ne-zero n)
       (ap (afterBarrier s) (barrier-refuses t (s .counters) (s .log) (λ q. suc-ne-zero n (sym e ∙ q))) ∙ rw e)
+
+-- ---- marks
+
+module _ (t : Told) (s : Session) (r : Run) (z : Alike t s r) (l : Label) where
+  abbrev number : ℕ
+  number = notedTest (s .counters) 1 (s .marks)
+
+  abbrev new : Mark
+  new = markOf (codeOf l) (idOf l) (s .counters .operations)
+
+  abbrev next : RecordMark
+  next = record { label = l; place = length (r .ops) }
+
+  mark-number : number ≡ markRefusal r
+  unfolding marksNumber markRefusal
+  mark-number =
+      firstOf-pass (marksTest (s .marks)) (markTest (s .counters .marks) 1 ∷ []) (z .marks-fit)
+      ∙ firstOf-one (markTest (s .counters .marks) 1) ∙ ap (λ (k : ℕ). markTest k 1) (z .marked-is)
+
+  -- a mark that is taken
+  taken-mark : number ≡ 0 → Alike t (record { counters = noting (s .counters) 1; media = s .media; copy = s .copy; log = s .log; marks = marked (s .marks) (s .counters .marks) new }) (Plain.marked r l)
+  taken-mark e =
+      let m : Marks = s .marks in
+      let k : ℕ = s .counters .marks in
+      let long : MarksLong m = marks-long m (z .marks-fit) in
+      let g1 = long .codes-long in
+      let g2 = long .ids-even in
+      let g3 = long .places-even in
+      let room : k + 1 ≤ 512 = marks-fit k 1 (length (m .codes)) (length (m .ids)) (length (m .places)) e in
+      record {
+        count-is = z .count-is;
+        count-le = z .count-le;
+        marked-is = ap (λ (x : ℕ). x + 1) (z .marked-is) ∙ sym (length-append (r .marks) (next ∷ []));
+        marked-le = room;
+        stop-is = z .stop-is;
+        media-is = z .media-is;
+        media-long = z .media-long;
+        copy-long = z .copy-long;
+        log-fits = z .log-fits;
+        marks-fit = ap₃ (length-set (m .codes) k (new .code)) (length-set (m .ids) k (new .id)) (length-set (m .places) k (new .place)) ∙ z .marks-fit;
+        kinds-are = z .kinds-are;
+        changed-are = z .changed-are;
+        answered-are = z .answered-are;
+        codes-are = column-more (m .codes) _ k (k + 1) (codeOf l) (λ (x : RecordMark). codeOf (x .label)) (r .marks) next (omega arith) refl refl refl (z .codes-are);
+        ids-are = column-more (m .ids) _ k (k + 1) (idOf l) (λ (x : RecordMark). idOf (x .label)) (r .marks) next (omega arith) refl refl refl (z .ids-are);
+        places-are = column-more (m .places) _ k (k + 1) (s .counters .operations) (λ (x : RecordMark). x .place) (r .marks) next (omega arith) refl refl (z .count-is) (z .places-are);
+        held = z .held;
+        early = z .early;
+      }
+    where
+      ap₃ : {a b c a′ b′ c′ : ℕ} → a ≡ a′ → b ≡ b′ → c ≡ c′ → marksLengthTest a b c ≡ marksLengthTest a′ b′ c′
+      ap₃ p q w = λ i. marksLengthTest (p i) (q i) (w i)
+
+  abbrev after : Answered
+  after = afterMark s (notedBy (s .counters) 1 (new ∷ []) (s .marks))
+
+  mark-by : (n : ℕ) → number ≡ n → Both t after (step t r (mark l)) (r .answers)
+  unfolding step markedFrom
+  mark-by zero e =
+      rw (e, ← mark-number, e) (record { alike = taken-mark e; answer-is = refl })
+  mark-by (suc n) e =
+      rw (← mark-number, e, ne-eqb (suc n) 0 (suc-ne-zero n)) (refused-both t s r z (suc n))
+
+  -- begin and end are this mark
+  mark-answered : answered t s (mark l) ≡ after
+  unfolding answered
+  mark-answered = go l
+    where
+      go : (k : Label) → answered t s (mark k) ≡ afterMark s (notedBy (s .counters) 1 (markOf (codeOf k) (idOf k) (s .counters .operations) ∷ []) (s .marks))
+      go (begin id) = refl
+      go end = refl
+
+  mark-alike : Both t (answered t s (mark l)) (step t r (mark l)) (r .answers)
+  mark-alike = rw mark-answered (mark-by number refl)
+
+-- ---- any call
+
+pub call-alike : (t : Told) (s : Session) (r : Run) (x : Call) → Alike t s r → Both t (answered t s x) (step t r x) (r .answers)
+call-alike t s r (act (program offset bytes)) z = program-alike t s r z offset bytes (programNumberOf t (s .counters) offset bytes (s .media) (s .copy) (s .log)) refl
+call-alike t s r (act (erase offset len)) z = erase-alike t s r z offset len (eraseNumberOf t (s .counters) offset len (s .media) (s .copy) (s .log)) refl
+call-alike t s r (act barrier) z = barrier-alike t s r z (barrierTest t (s .counters) (s .log)) refl
+call-alike t s r (mark l) z = mark-alike t s r z l

@@ -4,3 +4,4 @@ pub mod Steps
 pub mod Held
 pub mod Alike
 pub mod Calls
+pub mod Seen
