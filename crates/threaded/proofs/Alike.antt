@@ -3,17 +3,17 @@
 --     step-alike       a taken operation keeps it
 --     mark-alike       and a taken mark
 -- Assumes nothing.
-use mathlib.Core.Path.{_≡_, refl, sym, ap, ap₂, _∙_, subst}
-use mathlib.Core.Logic.{_⊎_, inl, inr}
-use mathlib.Core.Bool.{Bool, true, false, cond, not, _||_, true≢false}
+use mathlib.Core.Path.{_≡_, refl, sym, ap, ap₂, _∙_}
+use mathlib.Core.Logic.{inl, inr}
+use mathlib.Core.Bool.{Bool, true, false, not, _||_}
 use mathlib.Core.List.{List, [], _∷_, _++_, map, map-append}
 use Prim.Native.Nat.{ℕ, zero, suc, _+_, _-_, _≤_, _<_}
 use native.Mathlib.Nat.{zero-add, suc-ne-zero}
 use native.Mathlib.Omega.{arith}
 use lib.ListN.{length, take, drop, set, length-append, length-set, length-drop, drop-of-length-le}
-use lib.Dec.{eqb, ltb}
-use borrow.Author.Tests.{eq-eqb, ne-eqb, eqb-true, ltb-false, not-false}
-use Rattle.basics.specs.Tests.{flag, unless, refuseIf, firstOf}
+use lib.Dec.{eqb}
+use borrow.Author.Tests.{ne-eqb, eqb-true, ltb-false, not-false}
+use Rattle.basics.specs.Tests.{flag, refuseIf}
 use Rattle.basics.specs.Parts.{part, overlaid}
 use Rattle.basics.proofs.Tests.{refuse-zero, firstOf-zero}
 use Rattle.basics.proofs.Columns.{column-stored}
@@ -22,10 +22,9 @@ use Rattle.landing.specs.declared.Stop.{Stop}
 use Rattle.session.specs.declared.Told.{Told}
 use Rattle.session.specs.declared.Counters.{Counters}
 use Rattle.session.specs.declared.Entry.{Entry}
-use Rattle.session.specs.Log.{Log, logged, Marks, markOf, marked}
-use Rattle.session.specs.Tests.{logUneven, logShort, logLengthTest, logTest, marksUneven, marksShort, marksLengthTest, marksTest}
-use Rattle.session.specs.Armed.{armedOn, isArmed, nextCount}
-use Rattle.session.specs.Marks.{noting}
+use Rattle.session.specs.Log.{Log, logged, Marks}
+use Rattle.session.specs.Tests.{logShort, logLengthTest, logTest, marksShort, marksLengthTest, marksTest}
+use Rattle.session.specs.Armed.{armedOn, isArmed}
 use Rattle.session.proofs.Laws.{next-count}
 use Rattle.ledger.specs.Records.{Label, begin, end, RecordMark}
 use Rattle.plain.specs.Plain.{Op, Run, taken}
@@ -34,7 +33,7 @@ use Rattle.plain.specs.Ledger.{changed}
 use Rattle.threaded.specs.Threaded.{Session, Answered}
 use Rattle.threaded.proofs.Cells.{part-overlaid, length-overlaid, overlaid-none}
 use Rattle.threaded.proofs.Steps.{kindCode, restOf, Steps}
-use Rattle.threaded.proofs.Held.{armed-once, HeldBy, HeldAt, HeldFrom, held-snoc, held-before}
+use Rattle.threaded.proofs.Held.{armed-once, HeldBy, HeldFrom, held-snoc, held-before}
 
 abbrev pub codeOf : Label → ℕ
 codeOf (begin id) = 1
@@ -46,12 +45,12 @@ idOf end = 0
 
 -- ---- columns that the tests pass are long enough
 
-record LogLong (l : Log) : Type 0 where
-  kinds-long : 1024 ≤ length (l .kinds)
-  changed-even : length (l .changed) ≡ length (l .kinds)
-  answered-even : length (l .answered) ≡ length (l .kinds)
+pub record LogLong (l : Log) : Type 0 where
+  pub kinds-long : 1024 ≤ length (l .kinds)
+  pub changed-even : length (l .changed) ≡ length (l .kinds)
+  pub answered-even : length (l .answered) ≡ length (l .kinds)
 
-log-long : (l : Log) → logTest l ≡ 0 → LogLong l
+pub log-long : (l : Log) → logTest l ≡ 0 → LogLong l
 unfolding logLengthTest
 log-long l e =
     let k = length (l .kinds) in
@@ -95,8 +94,14 @@ marks-long m e =
 
 -- a store keeps every length
 pub logged-test : (l : Log) (i : ℕ) (e : Entry) → logTest (logged l i e) ≡ logTest l
-logged-test l i e = rw (length-set (l .kinds) i (e .kind), length-set (l .offsets) i (e .offset), length-set (l .lens) i (e .len),
-    length-set (l .digests) i (e .digest), length-set (l .changed) i (e .changed), length-set (l .answered) i (e .answered))
+logged-test l i e = rw (
+  length-set (l .kinds) i (e .kind),
+  length-set (l .offsets) i (e .offset),
+  length-set (l .lens) i (e .len),
+  length-set (l .digests) i (e .digest),
+  length-set (l .changed) i (e .changed),
+  length-set (l .answered) i (e .answered),
+)
 
 -- ---- the session beside the plain run
 

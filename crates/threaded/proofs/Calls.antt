@@ -1,42 +1,39 @@
 -- One call: the session and the plain run are alike after it, and give the same answer.
 --     call-alike       any call, refused or taken
 -- Assumes nothing.
-use mathlib.Core.Path.{_≡_, refl, sym, ap, ap₂, _∙_, subst}
-use mathlib.Core.Bool.{Bool, true, false, cond, not, _||_, true≢false}
-use mathlib.Core.List.{List, [], _∷_, _++_, map, map-append}
+use mathlib.Core.Path.{_≡_, refl, sym, ap, _∙_, subst}
+use mathlib.Core.Bool.{true, false, true≢false}
+use mathlib.Core.List.{List, [], _∷_, _++_}
 use Prim.Native.Nat.{ℕ, zero, suc, _+_, _≤_, _<_, _^_}
 use native.Mathlib.Nat.{suc-ne-zero}
 use native.Mathlib.Omega.{arith}
-use lib.ListN.{length, take, set, length-append, length-set}
-use lib.Dec.{eqb, ltb, leb}
-use borrow.Author.Tests.{eq-eqb, ne-eqb, leb-true}
-use Rattle.basics.specs.Tests.{unless, refuseIf, firstOf}
-use Rattle.basics.proofs.Tests.{refuse-not, unless-zero, firstOf-pass, firstOf-one, firstOf-rest, firstOf-zero}
+use lib.ListN.{length, length-append, length-set}
+use lib.Dec.{ltb}
+use borrow.Author.Tests.{eq-eqb, ne-eqb}
+use Rattle.basics.specs.Tests.{unless, firstOf}
+use Rattle.basics.proofs.Tests.{refuse-not, firstOf-pass, firstOf-one, firstOf-rest, firstOf-zero}
 use Rattle.storage.specs.declared.Geometry.{Geometry}
 use Rattle.storage.specs.Geometry.{geometryTest}
 use Rattle.storage.specs.Span.{programTest, eraseTest}
-use Rattle.storage.proofs.Nesting.{Legal, legal}
+use Rattle.storage.proofs.Nesting.{legal}
 use Rattle.landing.specs.declared.Stop.{Stop}
 use Rattle.landing.specs.Ending.{stopNumber}
 use Rattle.session.specs.declared.Told.{Told}
 use Rattle.session.specs.declared.Armed.{Armed}
 use Rattle.session.specs.declared.Armed.the-variants.{Nothing, At}
-use Rattle.session.specs.declared.Counters.{Counters}
-use Rattle.session.specs.declared.Called.{Called}
-use Rattle.session.specs.Log.{Log, Marks, Mark, markOf, marked}
+use Rattle.session.specs.Log.{Marks, Mark, markOf, marked}
 use Rattle.session.specs.Tests.{sizeTest, logTest, marksTest, marksLengthTest, marksNumber, operationTest, markTest}
 use Rattle.session.specs.Armed.{armedOn, isArmed}
-use Rattle.session.specs.Barrier.{Ordered, barrierNumber, barrierTest, barriered}
-use Rattle.session.specs.Marks.{Noted, noted, notedTest, noting, markedFrom, notedBy}
-use Rattle.session.specs.Written.{Written}
+use Rattle.session.specs.Barrier.{barrierNumber, barrierTest}
+use Rattle.session.specs.Marks.{notedTest, noting, markedFrom, notedBy}
 use Rattle.session.proofs.Refusals.{operation-room, marks-fit}
 use Rattle.session.proofs.Laws.{barrier-refuses, barrier-takes}
-use Rattle.session_erase.specs.Erase.{eraseNumber, eraseNumberOf, eraseCall}
+use Rattle.session_erase.specs.Erase.{eraseNumber, eraseNumberOf}
 use Rattle.session_erase.proofs.Laws.{erase-refuses, erase-takes}
-use Rattle.session_program.specs.Program.{spanNumber, bitTest, programNumber, programNumberOf, programCall}
+use Rattle.session_program.specs.Program.{spanNumber, bitTest, programNumber, programNumberOf}
 use Rattle.session_program.proofs.Laws.{program-refuses, program-takes}
 use Rattle.ledger.specs.Records.{Label, begin, end, RecordMark}
-use Rattle.plain.specs.Plain.{Act, program, erase, barrier, Call, act, mark, Op, Run, actTest, refusal, markRefusal, wholly, refused, taken, takenBy, unlessRefused, step}
+use Rattle.plain.specs.Plain.{Act, program, erase, barrier, Call, act, mark, Op, Run, actTest, refusal, markRefusal, wholly, refused, taken, takenBy, step}
 use Rattle.plain.specs.Plain
 use Rattle.threaded.specs.Threaded.{Session, Answered, afterWrite, afterBarrier, afterMark, answered}
 use Rattle.threaded.proofs.Steps.{met, stopBy, taken-by, Whole, Steps, program-steps, erase-steps, barrier-steps}
@@ -50,7 +47,7 @@ unfolding sizeTest
 sizes-pass g media copy e f = refuse-not _ 7 (rw (eq-eqb media (g .capacity) e, eq-eqb copy (g .capacity) f))
 
 module _ (t : Told) (s : Session) (r : Run) (z : Alike t s r) where
-  sizes-are : sizeTest (t .geometry) (length (s .media)) (length (s .copy)) ≡ 0
+  pub sizes-are : sizeTest (t .geometry) (length (s .media)) (length (s .copy)) ≡ 0
   sizes-are = sizes-pass (t .geometry) (length (s .media)) (length (s .copy)) (z .media-long) (z .copy-long)
 
   -- of the session's tests those of the plain run are left
@@ -169,7 +166,7 @@ module _ (t : Told) (s : Session) (r : Run) (z : Alike t s r) where
       let k : Armed = armedOn (t .armed) (s .counters .operations) in
       let o : Op = wholly (s .media) a in
       let q : takenBy g (t .armed) r (wholly (r .media) a) ≡ taken r (met g k o) (stopBy g k o) =
-          taken-by g (t .armed) r (wholly (r .media) a) ∙ rw (z .media-is, z .count-is) in
+      taken-by g (t .armed) r (wholly (r .media) a) ∙ rw (z .media-is, z .count-is) in
       let room : s .counters .operations < 1024 = rw (z .count-is) (operation-room (length (r .ops)) (act-room t (r .media) (length (r .ops)) a (act-passes t r a e))) in
       subst (λ (next : Run). Both t x next (r .answers)) (sym q)
       (record {

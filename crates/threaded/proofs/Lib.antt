@@ -5,3 +5,4 @@ pub mod Held
 pub mod Alike
 pub mod Calls
 pub mod Seen
+pub mod Same

@@ -8,7 +8,7 @@ use mathlib.Core.List.{List, [], _∷_, _++_, map, map-append}
 use Prim.Native.Nat.{ℕ, zero, suc, _-_}
 use lib.ListN.{length, take, drop, length-map}
 use Rattle.model.specs.Ledger.{Entry}
-use Rattle.ledger.specs.Records.{any, Label, begin, end, RecordMark, Asked, Kept, recordAt, nextPlace, recordsTo, behind, judged, entryBy, ledgerBy}
+use Rattle.ledger.specs.Records.{any, Label, begin, end, RecordMark, Asked, recordAt, nextPlace, recordsTo, behind, judged, entryBy, ledgerBy}
 
 module _ {A B : Type 0} (f : A → B) where
   map-take : (n : ℕ) (xs : List A) → take n (map f xs) ≡ map f (take n xs)
@@ -50,9 +50,9 @@ module _ {A B : Type 0} (f : A → B) where
   unfolding entryBy
   entry-map q id own later =
       let b : any (q .orders) (behind (q .writes) (map f own) ++ map f later) ≡ any (λ x. q .orders (f x)) (behind (λ x. q .writes (f x)) own ++ later) =
-          ap (λ (l : List B). any (q .orders) (l ++ map f later)) (behind-map (q .writes) own)
-          ∙ ap (any (q .orders)) (sym (map-append f (behind (λ x. q .writes (f x)) own) later))
-          ∙ any-map (q .orders) (behind (λ x. q .writes (f x)) own ++ later) in
+      ap (λ (l : List B). any (q .orders) (l ++ map f later)) (behind-map (q .writes) own)
+      ∙ ap (any (q .orders)) (sym (map-append f (behind (λ x. q .writes (f x)) own) later))
+      ∙ any-map (q .orders) (behind (λ x. q .writes (f x)) own ++ later) in
       λ i. judged id (any-map (q .changed) own i) (any-map (q .withheld) own i) (b i)
 
   records-map : (q : Asked B) (last : ℕ) (xs : List A) (ms : List RecordMark)

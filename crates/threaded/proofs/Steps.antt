@@ -3,21 +3,21 @@
 --     Steps            what a taken operation leaves of the session
 --     program-steps, erase-steps, barrier-steps
 -- Assumes nothing.
-use mathlib.Core.Path.{_≡_, refl, sym, ap, ap₂, _∙_}
+use mathlib.Core.Path.{_≡_, refl, sym, ap, _∙_}
 use mathlib.Core.Bool.{Bool, true, false, cond}
-use mathlib.Core.List.{List, [], _∷_, _++_}
-use Prim.Native.Nat.{ℕ, zero, suc, _+_, _-_, _≤_}
-use native.Mathlib.Nat.{le-refl, sub-self}
+use mathlib.Core.List.{List, []}
+use Prim.Native.Nat.{ℕ, _+_, _-_, _≤_}
+use native.Mathlib.Nat.{le-refl}
 use native.Mathlib.Omega.{arith}
-use lib.ListN.{length, take, drop, replicate, length-take, length-drop, length-replicate}
+use lib.ListN.{length, take, drop, replicate, length-drop, length-replicate}
 use lib.Seq.{length-take-le}
-use lib.Dec.{eqb, leb}
+use lib.Dec.{eqb}
 use borrow.Author.Tests.{le-leb}
 use Rattle.basics.specs.Tests.{flag}
 use Rattle.basics.specs.Parts.{part, overlaid}
 use Rattle.basics.proofs.Parts.{length-part}
 use Rattle.storage.specs.declared.Geometry.{Geometry}
-use Rattle.device.specs.Media.{ff, anded, programmed, erased, postimage, anyPair, anyChanged, unequal}
+use Rattle.device.specs.Media.{ff, anded, programmed, erased, postimage, anyPair, anyChanged}
 use Rattle.device.proofs.Cells.{length-anded}
 use Rattle.device.proofs.Applied.{any-overlaid}
 use Rattle.device.proofs.Programming.{length-programmed, programmed-in}
@@ -30,16 +30,13 @@ use Rattle.landing.proofs.Bounds.{program-landed-le, erase-landed-le}
 use Rattle.session.specs.declared.Told.{Told}
 use Rattle.session.specs.declared.Armed.{Armed}
 use Rattle.session.specs.declared.Armed.the-variants.{Nothing, At}
-use Rattle.session.specs.declared.Counters.{Counters}
-use Rattle.session.specs.declared.Called.{Called}
 use Rattle.session.specs.declared.Entry.{Entry}
-use Rattle.session.specs.Log.{Log, logged}
+use Rattle.session.specs.Log.{logged}
 use Rattle.session.specs.Armed.{armedOn, programLands, eraseLands, barrierRan, endedBy, nextCount, writeReply}
 use Rattle.session.specs.Barrier.{barrierReply, barrierEntry, ordered}
-use Rattle.session.specs.Written.{Written}
 use Rattle.session_erase.specs.Erase.{erasePlan, eraseLanding, eraseEntry, eraseTaken}
 use Rattle.session_program.specs.Program.{programPlan, programLanding, programEntry, programTaken}
-use Rattle.plain.specs.Plain.{Act, program, erase, barrier, Kind, isProgram, isErase, isBarrier, Op, Run, wholly, landedBy, completedBy, endingBy, asCut, after, taken, takenBy}
+use Rattle.plain.specs.Plain.{program, erase, barrier, Kind, isProgram, isErase, isBarrier, Op, Run, wholly, landedBy, completedBy, endingBy, asCut, after, taken, takenBy}
 use Rattle.plain.specs.Ledger.{changed}
 use Rattle.threaded.specs.Threaded.{Session, Answered, afterWrite, afterBarrier}
 use Rattle.threaded.proofs.Cells.{take-part, drop-part, anded-take, anded-drop, ff-take, ff-drop, overlaid-none}
@@ -205,13 +202,13 @@ module _ (t : Told) (s : Session) (offset : ℕ) (bytes : List ℕ) (fits : offs
       let tl : length (take n bytes) ≡ n = length-take-le n bytes short in
       let dl : length (drop n bytes) ≡ len - n = length-drop n bytes in
       let first : anded (part media offset n) (take n bytes) ≡ take n (m .want) =
-          sym (ap (take n) (z .want-is) ∙ anded-take n cells bytes ∙ ap (λ (c : List ℕ). anded c (take n bytes)) (take-part media offset len n short)) in
+      sym (ap (take n) (z .want-is) ∙ anded-take n cells bytes ∙ ap (λ (c : List ℕ). anded c (take n bytes)) (take-part media offset len n short)) in
       let rest : anded (part media (offset + n) (len - n)) (drop n bytes) ≡ drop n (m .want) =
-          sym (ap (drop n) (z .want-is) ∙ anded-drop n cells bytes ∙ ap (λ (c : List ℕ). anded c (drop n bytes)) (drop-part media offset len n)) in
+      sym (ap (drop n) (z .want-is) ∙ anded-drop n cells bytes ∙ ap (λ (c : List ℕ). anded c (drop n bytes)) (drop-part media offset len n)) in
       let laid : programmed media offset (take n bytes) ≡ overlaid media offset (take n (m .want)) =
-          programmed-in media offset (take n bytes) (omega arith) ∙ rw tl (ap (overlaid media offset) first) in
+      programmed-in media offset (take n bytes) (omega arith) ∙ rw tl (ap (overlaid media offset) first) in
       let held : postimage media (offset + n) (drop n bytes) ≡ drop n (m .want) =
-          rw (dl, le-leb (offset + n + (len - n)) (length media) (omega arith)) rest in
+      rw (dl, le-leb (offset + n + (len - n)) (length media) (omega arith)) rest in
       record {
         answer-is = sym (z .answer-is ∙ ap (λ (e : Ending). e .answer) en);
         operations-is = refl;
@@ -258,7 +255,7 @@ module _ (t : Told) (s : Session) (offset len : ℕ) (fits : offset + len ≤ le
       let rest : replicate (len - n) ff ≡ drop n (m .want) = sym (ap (drop n) (z .want-is) ∙ ff-drop n len) in
       let laid : erased media offset n ≡ overlaid media offset (take n (m .want)) = erased-in media offset n (omega arith) ∙ ap (overlaid media offset) first in
       let held : erased copy (offset + n) (len - n) ≡ overlaid copy (offset + n) (drop n (m .want)) =
-          erased-in copy (offset + n) (len - n) (omega arith) ∙ ap (overlaid copy (offset + n)) rest in
+      erased-in copy (offset + n) (len - n) (omega arith) ∙ ap (overlaid copy (offset + n)) rest in
       record {
         answer-is = sym (z .answer-is ∙ ap (λ (e : Ending). e .answer) en);
         operations-is = refl;

@@ -2,12 +2,11 @@
 -- nothing.
 use mathlib.Core.Path.{_≡_}
 use mathlib.Core.List.{List, [], _∷_}
-use Prim.Native.Nat.{ℕ}
 use lib.ListN.{length}
 use lib.Dec.{leb}
 use Rattle.basics.specs.Tests.{unless, refuseIf, firstOf}
 use Rattle.session.specs.declared.Told.{Told}
-use Rattle.ledger.specs.Ledger.{Entered, Ledgered, entriesUneven, ledgeredBy}
+use Rattle.ledger.specs.Ledger.{Entered, entriesUneven, ledgeredBy}
 use Rattle.plain.specs.Plain.{Call, Run, plain}
 use Rattle.plain.specs.Ledger.{ledger}
 use Rattle.threaded.specs.Threaded.{Session, threaded, sessionLedger, sessionLedgered}

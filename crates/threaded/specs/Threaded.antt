@@ -7,7 +7,6 @@ use lib.ListN.{length}
 use Rattle.model.specs.Ledger.{Entry}
 use Rattle.session.specs.declared.Told.{Told}
 use Rattle.session.specs.declared.Counters.{Counters}
-use Rattle.session.specs.declared.Called.{Called}
 use Rattle.session.specs.Log.{Log, Marks}
 use Rattle.session.specs.Tests.{startTest}
 use Rattle.session.specs.Start.{fresh}
