@@ -1,0 +1,3 @@
+-- The theorems about the plain run, lowest first.
+pub mod Runs
+pub mod Truncation
