@@ -1,3 +1,5 @@
 -- The theorems about the plain run, lowest first.
 pub mod Runs
 pub mod Truncation
+pub mod Tidy
+pub mod Only

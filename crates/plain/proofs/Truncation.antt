@@ -2,15 +2,14 @@
 --     cut-truncates    an operation meets the cut: those before it, it as cut, and nothing more; each mark at min p (index + 1)
 --     cut-unmet        none does: the uncut run
 -- Assumes nothing.
-use mathlib.Core.Path.{_≡_, refl, sym, ap, ap₂, _∙_, subst}
-use mathlib.Core.Logic.{⊎-elim}
+use mathlib.Core.Path.{_≡_, refl, sym, ap, ap₂, _∙_}
 use mathlib.Core.Bool.{Bool, true, false, cond}
 use mathlib.Core.List.{List, [], _∷_, _++_, map, map-append}
 use Prim.Native.Nat.{ℕ, suc, _+_, _≤_, _<_, min}
 use native.Mathlib.Nat.{le-refl, min-eq-right}
 use native.Mathlib.Decide.{ℕ-discrete}
 use native.Mathlib.Omega.{arith}
-use lib.ListN.{length, take, getD, length-append, length-map, List·getD-append}
+use lib.ListN.{length, take, length-append, length-map, List·getD-append}
 use lib.Seq.{take-at, getD-at, take-append-le, length-take-le}
 use lib.Dec.{eqb}
 use borrow.Author.Tests.{eq-eqb, ne-eqb}
@@ -25,7 +24,7 @@ use Rattle.session.specs.declared.Armed.the-variants.{Nothing, At}
 use Rattle.session.specs.Tests.{markTest}
 use Rattle.session_program.specs.Program.{spanNumber}
 use Rattle.ledger.specs.Records.{Label, RecordMark}
-use Rattle.plain.specs.Plain.{Act, program, erase, barrier, Call, act, mark, Op, Run, actTest, refusal, markRefusal, wholly, completedBy, landedBy, endingBy, asCut, refused, taken, takenBy, marked, unlessRefused, step, run, unrun, plain}
+use Rattle.plain.specs.Plain.{Act, program, erase, barrier, Call, act, mark, Op, Run, actTest, refusal, markRefusal, wholly, endingBy, refused, taken, takenBy, marked, step, run, unrun, plain}
 use Rattle.plain.specs.Claims.{CutOnce, cutBy, cappedAt, Truncated}
 
 -- ---- marks within the operations
@@ -154,7 +153,7 @@ module _ (t : Told) (j : Injection) (once : CutOnce (At j)) (d : Op) where
       go false = beyond h (record { ops-are = w .ops-are; marks-are = w .marks-are }) e
 
   -- the cut run has taken index + 1 operations
-  cut-length : (u s : Run) → j .op < length (u .ops) → Truncated (t .geometry) j d u s → length (s .ops) ≡ suc (j .op)
+  pub cut-length : (u s : Run) → j .op < length (u .ops) → Truncated (t .geometry) j d u s → length (s .ops) ≡ suc (j .op)
   cut-length u s h w =
       let k : length (take (j .op) (u .ops)) ≡ j .op = length-take-le (j .op) (u .ops) (omega arith) in
       ap length (w .ops-are) ∙ length-append (take (j .op) (u .ops)) _ ∙ omega arith
