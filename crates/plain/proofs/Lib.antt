@@ -3,3 +3,6 @@ pub mod Runs
 pub mod Truncation
 pub mod Tidy
 pub mod Only
+pub mod Histories
+pub mod Entries
+pub mod Accepted
