@@ -1,7 +1,7 @@
 -- Theorem 3: which histories the verdict accepts of a run's ledger, and that there is one. By demand 2's `accepts-exactly` an accepted
 -- history is a beginning of the committed ids with every acknowledged one and no torn one. Assumes nothing.
 use mathlib.Core.Path.{_≡_, refl, sym, ap}
-use mathlib.Core.Bool.{Bool, true, false, not, _&&_, false≢true}
+use mathlib.Core.Bool.{true, not, false≢true}
 use mathlib.Core.List.{List, [], _++_, List·Memᴰ·not-nil}
 use Prim.Native.Nat.{ℕ, _+_, _≤_}
 use native.Mathlib.Omega.{arith}
@@ -20,15 +20,12 @@ use Rattle.session.specs.declared.Armed.{Armed}
 use Rattle.plain.specs.Plain.{Call, Run, plain}
 use Rattle.plain.specs.Ledger.{ledger, begun}
 use Rattle.plain.specs.Claims.{CutOnce, cutBy, OnlyTheLast, FirstOfCommitted, AcceptsExactly}
+use Rattle.plain.proofs.Flags.{first-true}
 use Rattle.plain.proofs.Only.{only-the-last}
 use Rattle.plain.proofs.Histories.{picked-twice, picked-distinct, reaches, holds-all, stays-short, holds-none, TornOrAcknowledged, picked-either, acknowledged-untorn}
 use Rattle.plain.proofs.Entries.{ledger-ids, ledger-either}
 
 -- ---- the torn and the acknowledged are committed
-
-first-true : (a b : Bool) → (a && b) ≡ true → a ≡ true
-first-true true b e = refl
-first-true false b e = e
 
 torn-committed : (e : Entry) → isTorn e ≡ true → isCommitted e ≡ true
 torn-committed e t = first-true (isCommitted e) (e .mark) t
