@@ -9,7 +9,4 @@ pub mod Erasing
 pub mod Bits
 pub mod Questions
 pub mod Postimages
-pub mod Numbers
-pub mod Accepted
-pub mod Replies
 pub mod Examples
