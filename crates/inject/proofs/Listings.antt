@@ -6,14 +6,17 @@ use Prim.Native.Nat.{ℕ, _+_, _≤_, _<_}
 use native.Mathlib.Nat.{zero-add}
 use lib.ListN.{length}
 use lib.Dec.{eqb}
-use borrow.Author.Tests.{eq-eqb, ne-eqb, eqb-true, le-leb, lt-leb}
+use borrow.Author.Tests.{ne-eqb, eqb-true, le-leb, lt-leb}
 use Rattle.basics.specs.Tests.{unless, firstOf}
 use Rattle.storage.specs.declared.Geometry.{Geometry}
 use Rattle.inject.specs.declared.Injection.{Injection}
+use Rattle.inject.specs.declared.Counted.{Counted}
+use Rattle.inject.specs.declared.Counted.the-variants.{Points, NotCounted}
 use Rattle.inject.specs.declared.Written.the-variants.{All, NotWritten}
-use Rattle.inject.specs.Answers.{listTest, pointsOf, PointColumns, equalColumns, written, listing, listed}
-use Rattle.inject.specs.Steps.{laidFrom, Room, Rows, rows}
+use Rattle.inject.specs.Answers.{listTest, pointsOf, countedBeside, PointColumns, equalColumns, written, listing, listed}
+use Rattle.inject.specs.Steps.{Sound, laidFrom, Room, Rows, rows}
 use Rattle.inject.proofs.Refusals.{passes}
+use Rattle.inject.proofs.Whole.{not-counted, was-counted}
 use Rattle.inject.proofs.Rows.{then-rows, first-room, next-room, begun-rows}
 
 -- ---- a list that is written in two parts
@@ -54,18 +57,27 @@ equal-room n c e h =
 
 -- ---- what is answered, and what the columns hold
 
-module _ (g : Geometry) (ks os ls : List ℕ) (c : PointColumns) (number : ℕ) (told : number ≡ listTest g ks os ls (equalColumns c)) where
-  pub write-refused : (number ≡ 0 → ⊥) → listing (NotWritten number) c ≡ listed g ks os ls c
-  unfolding firstOf
-  write-refused h = simp (sym told, ne-eqb number 0 h)
+pub write-sound : (g : Geometry) (ks os ls : List ℕ) (equal : Bool) (r : Counted) (count : ℕ) → r ≡ countedBeside g ks os ls equal → r ≡ Points count → Sound g ks os ls
+write-sound g ks os ls equal r count told is =
+    passes g ks os ls equal (was-counted (listTest g ks os ls equal) (length (pointsOf g ks os ls)) count (sym told ∙ is) .0) .sound
 
-  module _ (z : number ≡ 0) (count : ℕ) (e : count ≡ length (pointsOf g ks os ls)) where
+module _ (g : Geometry) (ks os ls : List ℕ) (c : PointColumns) (r : Counted) (told : r ≡ countedBeside g ks os ls (equalColumns c)) where
+  pub write-refused : (n : ℕ) → r ≡ NotCounted n → listing (NotWritten n) c ≡ listed g ks os ls c
+  unfolding firstOf
+  write-refused n e =
+      let q = not-counted (listTest g ks os ls (equalColumns c)) (length (pointsOf g ks os ls)) n (sym told ∙ e) in
+      simp (q .0, ne-eqb n 0 (q .1))
+
+  module _ (count : ℕ) (is : r ≡ Points count) where
+    tested : (listTest g ks os ls (equalColumns c) ≡ 0) × (count ≡ length (pointsOf g ks os ls))
+    tested = was-counted (listTest g ks os ls (equalColumns c)) (length (pointsOf g ks os ls)) count (sym told ∙ is)
+
     pub write-short : length (c .ops) < count → listing (NotWritten 13) c ≡ listed g ks os ls c
     unfolding firstOf unless
-    write-short h = simp (sym told, eq-eqb number 0 z, lt-leb _ _ (rw e at h))
+    write-short h = simp (tested .0, lt-leb _ _ (rw (tested .1) at h))
 
     pub write-room : count ≤ length (c .ops) → Room (length (pointsOf g ks os ls)) c
-    write-room h = equal-room (length (pointsOf g ks os ls)) c (passes g ks os ls (equalColumns c) (sym told ∙ z) .lent) (rw e at h)
+    write-room h = equal-room (length (pointsOf g ks os ls)) c (passes g ks os ls (equalColumns c) (tested .0) .lent) (rw (tested .1) at h)
 
     pub write-done : count ≤ length (c .ops) → (n : ℕ) (d : PointColumns) → rows n d ≡ laidFrom 0 (pointsOf g ks os ls) c
         → listing (All n) d ≡ listed g ks os ls c
@@ -74,4 +86,4 @@ module _ (g : Geometry) (ks os ls : List ℕ) (c : PointColumns) (number : ℕ) 
         let ps = pointsOf g ks os ls in
         let k : n ≡ length ps = ap (λ (r : Rows). r .next) q ∙ zero-add (length ps) in
         let t : d ≡ written ps c = ap (λ (r : Rows). r .columns) q ∙ begun-rows ps c (write-room h) in
-        simp (sym told, eq-eqb number 0 z, le-leb _ _ (rw e at h)) (ap₂ (λ (j : ℕ) (f : PointColumns). listing (All j) f) k t)
+        simp (tested .0, le-leb _ _ (rw (tested .1) at h)) (ap₂ (λ (j : ℕ) (f : PointColumns). listing (All j) f) k t)

@@ -58,7 +58,10 @@ placeTest g kinds offsets lens place =
 abbrev pub countedBy : (number count : ℕ) → Counted
 countedBy number count = cond (eqb number 0) (Points count) (NotCounted number)
 
--- how many crash points there are, or the number that refuses
+-- how many crash points there are, or the number that refuses: beside lent columns of points, and alone
+abbrev pub countedBeside : Geometry → (kinds offsets lens : List ℕ) → (equal : Bool) → Counted
+countedBeside g kinds offsets lens equal = countedBy (listTest g kinds offsets lens equal) (length (pointsOf g kinds offsets lens))
+
 abbrev pub counted : Geometry → (kinds offsets lens : List ℕ) → Counted
 counted g kinds offsets lens = countedBy (countTest g kinds offsets lens) (length (pointsOf g kinds offsets lens))
 

@@ -23,8 +23,6 @@ use Rattle.inject.specs.Answers.{most, PointColumns, columnsOf, progress
 -- ---- a list that is not refused
 
 pub record Sound (g : Geometry) (kinds offsets lens : List ℕ) : Type 0 where
-  pub program : 0 < g .«program_size»
-  pub erase : 0 < g .«erase_size»
   pub offsets-equal : length kinds ≡ length offsets
   pub lens-equal : length kinds ≡ length lens
   pub few : length kinds ≤ most

@@ -10,7 +10,7 @@ ghost use Prim.Native.Nat.{_+_, _*_, _≤_, _<_, _^_};
 ghost use lib.ListN.{length, getD, replicate};
 ghost use Rattle.inject.specs.Ops.{opOf, opsOf, known, lenOf};
 ghost use Rattle.inject.specs.Points.{inner, wholeSpan, wholePoint, point, under};
-ghost use Rattle.inject.specs.Answers.{most, listTest, pointsOf, counted, found, columnsOf, listing, listed, progressCode, countCode, interruptionCode};
+ghost use Rattle.inject.specs.Answers.{most, listTest, pointsOf, countedBeside, counted, found, columnsOf, listing, listed, progressCode, countCode, interruptionCode};
 ghost use Rattle.inject.specs.Steps.{Sound, opAt, tearUnit, resetUnit, steps, grouped, Small, GroupOf, lonePoint, loneFor, partOf, laterOf, sought, onward, laid, laidFrom, bytesAt, Room, rows};
 
 // One operation of a write sequence: offsets and lengths only.
@@ -68,11 +68,11 @@ pub enum Written {
 
 // One operation's points under one interruption: how many none points (0 or 1), how many byte points, which are the first
 // multiples of a unit, and how many whole points (0 or 1).
-struct Group {
-    nones: u32,
-    unit: u32,
-    inner: u32,
-    wholes: u32,
+pub struct Group {
+    pub nones: u32,
+    pub unit: u32,
+    pub inner: u32,
+    pub wholes: u32,
 }
 
 // A part of the list, searched for a place: the point, or how far past the part the place lies.
@@ -101,12 +101,14 @@ fn whole_span(len: u32) -> u32
     if len == 0 { 0 } else { 1 }
 }
 
-// How many multiples of a unit lie above 0 and below a length.
+// How many multiples of a unit lie above 0 and below a length; none of the unit 0.
 fn inner_count(unit: u32, len: u32) -> u32
-    requires { ⌜ 0 < unit ⌝ }
     ensures { λ r. ⌜ (steps unit r ≡ inner unit len) × (r * unit < 2 ^ 32) ⌝ }
 {
     if len == 0 {
+        return 0;
+    }
+    if unit == 0 {
         return 0;
     }
     (len - 1) / unit
@@ -163,18 +165,18 @@ impl Op {
     }
 }
 
-// One operation's points under an interruption. None of an operation is the end of the one before it to a power loss,
-// and a point of its own to the other two.
-fn group_of(op: Op, geometry: Geometry, cause: Interruption) -> Group
-    requires { ⌜ (0 < geometry .«program_size») × (0 < geometry .«erase_size») ⌝ }
-    ensures { λ r. ⌜ GroupOf geometry cause op r ⌝ }
+// A row's points under an interruption. None of an operation is the end of the one before it to a power loss, and a point
+// of its own to the other two.
+pub fn group_of(kind: u8, offset: u32, len: u32, geometry: Geometry, cause: Interruption) -> Group
+    ensures { λ r. ⌜ GroupOf geometry cause (opOf kind offset len) r ⌝ }
 {
-    let len = op.len();
+    let op = op_of(kind, offset, len);
+    let span = op.len();
     let wholes = op.wholes(cause);
     match cause {
         Interruption::PowerLoss => {
             let unit = op.tear_unit(geometry);
-            let inner = inner_count(unit, len);
+            let inner = inner_count(unit, span);
             Group {
                 nones: 0,
                 unit,
@@ -184,7 +186,7 @@ fn group_of(op: Op, geometry: Geometry, cause: Interruption) -> Group
         }
         Interruption::Watchdog => {
             let unit = op.reset_unit(geometry);
-            let inner = inner_count(unit, len);
+            let inner = inner_count(unit, span);
             Group {
                 nones: 1,
                 unit,
@@ -194,7 +196,7 @@ fn group_of(op: Op, geometry: Geometry, cause: Interruption) -> Group
         }
         Interruption::Failure => {
             let unit = op.tear_unit(geometry);
-            let inner = inner_count(unit, len);
+            let inner = inner_count(unit, span);
             Group {
                 nones: 1,
                 unit,
@@ -203,24 +205,6 @@ fn group_of(op: Op, geometry: Geometry, cause: Interruption) -> Group
             }
         }
     }
-}
-
-// One row's points under an interruption.
-fn group_at(
-    kinds: &[u8],
-    offsets: &[u32],
-    lens: &[u32],
-    i: usize,
-    geometry: Geometry,
-    cause: Interruption,
-) -> Group
-    requires { ⌜ (Sound geometry (now kinds) (now offsets) (now lens)) × (i < length (now kinds)) ⌝ }
-    ensures { λ r. ⌜ GroupOf geometry cause (opAt (now (kinds .entry)) (now (offsets .entry)) (now (lens .entry)) i) r ⌝ }
-{
-    let kind = kinds[i];
-    let offset = offsets[i];
-    let len = lens[i];
-    group_of(op_of(kind, offset, len), geometry, cause)
 }
 
 // How many points a group has.
@@ -267,7 +251,7 @@ fn all_known(kinds: &[u8]) -> bool
 }
 
 // The number that refuses a list of operations, or 0. `equal` tells whether the columns lent for points are of one length.
-fn refuse(kinds: &[u8], offsets: &[u32], lens: &[u32], geometry: Geometry, equal: bool) -> u32
+pub fn refuse(kinds: &[u8], offsets: &[u32], lens: &[u32], geometry: Geometry, equal: bool) -> u32
     ensures { λ r. ⌜ r ≡ listTest geometry (now (kinds .entry)) (now (offsets .entry)) (now (lens .entry)) equal ⌝ }
 {
     let checked = geometry.check();
@@ -308,7 +292,7 @@ fn total(
     let mut sum: u64 = 0;
     let mut i: usize = 0;
     while i < kinds.len() {
-        let group = group_at(kinds, offsets, lens, i, geometry, cause);
+        let group = group_of(kinds[i], offsets[i], lens[i], geometry, cause);
         sum += size(group);
         i += 1;
     }
@@ -316,7 +300,7 @@ fn total(
 }
 
 // How many watchdog points a list has before those of its operations: one, if it is empty.
-fn lone_count(operations: usize) -> u32
+pub fn lone_count(operations: usize) -> u32
     ensures { λ r. ⌜ (replicate r lonePoint ≡ loneFor operations) × (r ≤ 1) ⌝ }
 {
     if operations == 0 { 1 } else { 0 }
@@ -334,16 +318,29 @@ fn count(kinds: &[u8], offsets: &[u32], lens: &[u32], geometry: Geometry) -> u64
     1 + lost + alone + reset + failed
 }
 
-// How many crash points the operations have.
-pub fn injection_count(kinds: &[u8], offsets: &[u32], lens: &[u32], geometry: Geometry) -> Counted
-    ensures { λ r. ⌜ r ≡ counted geometry (now (kinds .entry)) (now (offsets .entry)) (now (lens .entry)) ⌝ }
+// How many crash points the operations have, for a caller who lends columns too: `equal` tells whether they are of one length.
+pub fn count_beside(
+    kinds: &[u8],
+    offsets: &[u32],
+    lens: &[u32],
+    geometry: Geometry,
+    equal: bool,
+) -> Counted
+    ensures { λ r. ⌜ r ≡ countedBeside geometry (now (kinds .entry)) (now (offsets .entry)) (now (lens .entry)) equal ⌝ }
 {
-    let refused = refuse(kinds, offsets, lens, geometry, true);
+    let refused = refuse(kinds, offsets, lens, geometry, equal);
     if refused != 0 {
         return Counted::NotCounted(refused);
     }
     let points = count(kinds, offsets, lens, geometry);
     Counted::Points(points)
+}
+
+// How many crash points the operations have.
+pub fn injection_count(kinds: &[u8], offsets: &[u32], lens: &[u32], geometry: Geometry) -> Counted
+    ensures { λ r. ⌜ r ≡ counted geometry (now (kinds .entry)) (now (offsets .entry)) (now (lens .entry)) ⌝ }
+{
+    count_beside(kinds, offsets, lens, geometry, true)
 }
 
 // A search goes on: in a list of one point.
@@ -393,7 +390,7 @@ fn seek_groups(
     let mut left = place;
     let mut i: usize = 0;
     while i < kinds.len() {
-        let group = group_at(kinds, offsets, lens, i, geometry, cause);
+        let group = group_of(kinds[i], offsets[i], lens[i], geometry, cause);
         let points = size(group);
         if left < points {
             let progress = progress_at(group, left);
@@ -654,7 +651,7 @@ fn write_groups(
     let mut next = at;
     let mut i: usize = 0;
     while i < kinds.len() {
-        let group = group_at(kinds, offsets, lens, i, geometry, cause);
+        let group = group_of(kinds[i], offsets[i], lens[i], geometry, cause);
         next = write_group(
             group,
             i,
@@ -812,23 +809,24 @@ pub fn injections(
 {
     let room = ops.len();
     let equal = (room == progresses.len()) & (room == counts.len()) & (room == interruptions.len());
-    let refused = refuse(kinds, offsets, lens, geometry, equal);
-    if refused != 0 {
-        return Written::NotWritten(refused);
+    let counted = count_beside(kinds, offsets, lens, geometry, equal);
+    match counted {
+        Counted::NotCounted(refused) => Written::NotWritten(refused),
+        Counted::Points(points) => {
+            if (room as u64) < points {
+                return Written::NotWritten(13);
+            }
+            let rows = write_all(
+                kinds,
+                offsets,
+                lens,
+                geometry,
+                ops,
+                progresses,
+                counts,
+                interruptions,
+            );
+            Written::All(rows)
+        }
     }
-    let points = count(kinds, offsets, lens, geometry);
-    if (room as u64) < points {
-        return Written::NotWritten(13);
-    }
-    let rows = write_all(
-        kinds,
-        offsets,
-        lens,
-        geometry,
-        ops,
-        progresses,
-        counts,
-        interruptions,
-    );
-    Written::All(rows)
 }

@@ -4,6 +4,7 @@ use mathlib.Core.Path.{_≡_, refl, _∙_}
 use Prim.Native.Nat.{_-_, _≤_}
 use native.Mathlib.Omega.{arith}
 use lib.ListN.{length}
+use borrow.Author.Needs.{needs}
 use denote.Ref.{now}
 use Rattle.inject.specs.Ops.{opsOf}
 use Rattle.inject.specs.Points.{under}
@@ -25,13 +26,13 @@ abbrev μ-loop : tie.MeasureT-loop
 μ-loop kinds offsets lens geometry cause at ops₀ progresses₀ counts₀ interruptions₀ next₀ i₀ ops progresses counts interruptions next i = length kinds - i
 
 -- the ways back: from the call's arguments and from the call to the row's group, from there to the loop's test, and to the start
-abbrev asked : tie.After-write-group-arg4 Inv-loop μ-loop → tie.After-group-at Inv-loop μ-loop
+abbrev asked : tie.After-write-group-arg4 Inv-loop μ-loop → tie.After-group-of Inv-loop μ-loop
 asked c = c .before .before .before .before
 
 abbrev called : tie.After-slice-known8 Inv-loop μ-loop → tie.After-write-group Inv-loop μ-loop
 called c = c .before .before .before .before .before .before .before .before
 
-abbrev grouped : tie.After-write-group Inv-loop μ-loop → tie.After-group-at Inv-loop μ-loop
+abbrev grouped : tie.After-write-group Inv-loop μ-loop → tie.After-group-of Inv-loop μ-loop
 grouped c = c .before .before .before .before .before
 
 abbrev start : tie.In-loop Inv-loop μ-loop → tie.Start Inv-loop μ-loop
@@ -40,19 +41,34 @@ start c = c .before .before .before .before .before .before .before .before .bef
 loop-holds : tie.Need-loop-holds Inv-loop μ-loop
 loop-holds c = (omega arith, kept-all _, refl)
 
-group-at-requires : tie.Need-group-at-requires Inv-loop μ-loop
-group-at-requires c κs = (start c .pre .0, c .loop-test .taken)
+shared-slice-read-group-of : tie.Need-shared-slice-read-group-of Inv-loop μ-loop
+shared-slice-read-group-of c = search needs
+
+mul-group-of : tie.Need-mul-group-of Inv-loop μ-loop
+mul-group-of c = search needs
+
+shared-slice-read-group-of-2 : tie.Need-shared-slice-read-group-of-2 Inv-loop μ-loop
+shared-slice-read-group-of-2 c = rw (← c .before .before .before .before .before .before .before .before .before .before .before .pre .0 .offsets-equal) (c .before .before .loop-test .taken)
+
+mul-group-of-2 : tie.Need-mul-group-of-2 Inv-loop μ-loop
+mul-group-of-2 c = search needs
+
+shared-slice-read-group-of-3 : tie.Need-shared-slice-read-group-of-3 Inv-loop μ-loop
+shared-slice-read-group-of-3 c = rw (← c .before .before .before .before .before .before .before .before .before .before .before .before .pre .0 .lens-equal) (c .before .before .before .loop-test .taken)
+
+group-of-requires : tie.Need-group-of-requires Inv-loop μ-loop
+group-of-requires c κs = search needs
 
 write-group-requires : tie.Need-write-group-requires Inv-loop μ-loop
 write-group-requires c κs =
     let g = asked c in
-    let i = g .before in
+    let i = g .before .before .before .before in
     let s = start i in
     let l = i .before .loop in (
       omega (arith, s .pre .0 .few),
-      g .group-at .ensures .small,
+      g .group-of .ensures .small,
       walk-room (s .args .geometry) (s .args .cause) (now (s .args .kinds)) (now (s .args .offsets)) (now (s .args .lens)) (s .pre .0) (l .i) (i .loop-test .taken)
-          (g .group-at .result) (g .group-at .ensures) _ _ (s .pre .1) _ _ (l .inv .1) (l .inv .2),
+          (g .group-of .result) (g .group-of .ensures) _ _ (s .pre .1) _ _ (l .inv .1) (l .inv .2),
     )
 
 add-i : tie.Need-add-i Inv-loop μ-loop
@@ -65,13 +81,13 @@ loop-again : tie.Need-loop-again Inv-loop μ-loop
 loop-again c =
     let e = called c in
     let g = grouped e in
-    let i = g .before in
+    let i = g .before .before .before .before in
     let s = start i in
     let l = i .before .loop in (
       omega arith,
       kept-trans _ _ _ (l .inv .1) (kept _ _ _ _ _ (e .write-group .ensures)),
       walk-more (s .args .geometry) (s .args .cause) (now (s .args .kinds)) (now (s .args .offsets)) (now (s .args .lens)) (s .pre .0) (l .i) (i .loop-test .taken)
-          (g .group-at .result) (g .group-at .ensures) _ _ _ _ (e .write-group .ensures)
+          (g .group-of .result) (g .group-of .ensures) _ _ _ _ (e .write-group .ensures)
           ∙ l .inv .2,
     )
 
@@ -101,7 +117,12 @@ write-groups-spec =
     Inv-loop
     μ-loop
     loop-holds
-    group-at-requires
+    shared-slice-read-group-of
+    mul-group-of
+    shared-slice-read-group-of-2
+    mul-group-of-2
+    shared-slice-read-group-of-3
+    group-of-requires
     write-group-requires
     add-i
     loop-less
