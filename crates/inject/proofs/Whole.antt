@@ -1,7 +1,7 @@
 -- The whole list, from its opening point through its four parts: what the public functions answer. Assumes nothing.
 use mathlib.Core.Path.{_≡_, refl, sym, ap, _∙_}
 use mathlib.Core.Bool.{Bool, true}
-use mathlib.Core.List.{List, [], _∷_, _++_, append-assoc}
+use mathlib.Core.List.{List, [], _∷_, _++_}
 use Prim.Native.Nat.{ℕ, zero, suc, _+_}
 use native.Mathlib.Nat.{suc-ne-zero}
 use native.Mathlib.Omega.{arith}
@@ -18,7 +18,7 @@ use Rattle.inject.specs.declared.Sought.the-variants.{At, Past}
 use Rattle.inject.specs.Ops.{opsOf}
 use Rattle.inject.specs.Points.{under, lone, opening, injectionsOf}
 use Rattle.inject.specs.Answers.{listTest, pointsOf, countedBy, countedBeside, found}
-use Rattle.inject.specs.Steps.{Sound, lonePoint, loneFor, partOf, laterOf, sought, onward}
+use Rattle.inject.specs.Steps.{Sound, lonePoint, loneFor, sought, onward}
 use Rattle.inject.proofs.Searches.{onward-next, sought-at, sought-beyond}
 
 -- ---- the point that only an empty list has
@@ -33,10 +33,6 @@ lone-for [] os ls h k = refl
 lone-for (a ∷ ks) [] ls h k = absurd (omega arith)
 lone-for (a ∷ ks) (b ∷ os) [] h k = absurd (omega arith)
 lone-for (a ∷ ks) (b ∷ os) (d ∷ ls) h k = refl
-
-pub later-in-two : (g : Geometry) (ks os ls : List ℕ) (times : ℕ) → replicate times lonePoint ≡ loneFor (length ks)
-    → laterOf g ks os ls ≡ partOf times Watchdog g ks os ls ++ under g Failure 0 (opsOf ks os ls)
-later-in-two g ks os ls times e = rw e (sym (append-assoc (loneFor (length ks)) _ _))
 
 -- ---- a sound list's points, part by part
 
@@ -54,10 +50,6 @@ module _ (g : Geometry) (ks os ls : List ℕ) (s : Sound g ks os ls) where
   whole-count a b d e x y z w =
       let alone : b ≡ length (loneFor (length ks)) = sym (length-replicate b lonePoint) ∙ ap length y in
       sym (ap length parts ∙ simp (length-append) (omega arith))
-
-  -- the same, as the parts are written
-  pub in-two : pointsOf g ks os ls ≡ partOf 1 PowerLoss g ks os ls ++ laterOf g ks os ls
-  in-two = parts
 
   -- five searches, one after the other
   pub whole-search : (n : ℕ) (a b d e f : Sought) → a ≡ onward (Past n) (opening ∷ []) → b ≡ onward a (under g PowerLoss 0 (opsOf ks os ls))

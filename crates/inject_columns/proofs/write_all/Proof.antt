@@ -1,16 +1,16 @@
--- `inject::write_all` meets its contract: the opening point with the power losses, and then the others. Assumes nothing.
+-- `inject_columns::write_all` meets its contract: the opening point with the power losses, and then the others. Assumes nothing.
 use mathlib.Core.Path.{_≡_}
 use mathlib.Core.List.{List, _++_}
 use borrow.Author.Needs.{needs}
 use denote.Ref.{now}
 use Rattle.inject.specs.declared.Injection.{Injection}
 use Rattle.inject.specs.declared.Interruption.the-variants.{PowerLoss}
 use Rattle.inject.specs.Answers.{pointsOf}
-use Rattle.inject.specs.Steps.{partOf, laterOf}
-use Rattle.inject.proofs.Whole.{in-two}
-use Rattle.inject.proofs.Listings.{from-first, room-first, room-second, both-rows}
-use Rattle.inject.proofs.write_all.Statement.{statement}
-use Rattle.inject.proofs.write_all.Tie as tie
+use Rattle.inject_columns.specs.Steps.{partOf, laterOf}
+use Rattle.inject_columns.proofs.Order.{in-two}
+use Rattle.inject_columns.proofs.Listings.{from-first, room-first, room-second, both-rows}
+use Rattle.inject_columns.proofs.write_all.Statement.{statement}
+use Rattle.inject_columns.proofs.write_all.Tie as tie
 
 -- the ways back to the two calls, and to the start
 abbrev lost-done : tie.After-slice-known8 → tie.After-write-part

@@ -1,15 +1,16 @@
--- `inject::write_bytes` meets its contract. The invariant: the first `done` byte points are stored, up to `next`. Assumes nothing.
+-- `inject_columns::write_bytes` meets its contract. The invariant: the first `done` byte points are stored, up to `next`. Assumes nothing.
 use mathlib.Core.Path.{_≡_, sym}
 use Prim.Native.Nat.{_+_, _-_, _≤_}
 use native.Mathlib.Nat.{add-zero}
 use native.Mathlib.Omega.{arith}
 use borrow.Author.Needs.{needs}
-use Rattle.inject.specs.Answers.{columnsOf}
-use Rattle.inject.specs.Steps.{steps, laidFrom, bytesAt, rows}
+use Rattle.inject_columns.specs.Answers.{columnsOf}
+use Rattle.inject.specs.Steps.{steps}
+use Rattle.inject_columns.specs.Steps.{laidFrom, bytesAt, rows}
 use Rattle.inject.proofs.Spans.{step-fits}
-use Rattle.inject.proofs.Rows.{no-rows, byte-rows, kept, kept-room}
-use Rattle.inject.proofs.write_bytes.Statement.{statement}
-use Rattle.inject.proofs.write_bytes.Tie as tie
+use Rattle.inject_columns.proofs.Rows.{no-rows, byte-rows, kept, kept-room}
+use Rattle.inject_columns.proofs.write_bytes.Statement.{statement}
+use Rattle.inject_columns.proofs.write_bytes.Tie as tie
 
 abbrev Inv-loop : tie.InvT-loop
 Inv-loop unit inner op cause at ops₀ progresses₀ counts₀ interruptions₀ next₀ done₀ ops progresses counts interruptions next done = (done ≤ inner) × (next ≡ at + done)

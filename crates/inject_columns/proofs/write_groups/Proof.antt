@@ -1,4 +1,4 @@
--- `inject::write_groups` meets its contract. The invariant: the points from row `i` on, laid from `next` on what the columns hold, are the
+-- `inject_columns::write_groups` meets its contract. The invariant: the points from row `i` on, laid from `next` on what the columns hold, are the
 -- whole laid on what they held. Assumes nothing.
 use mathlib.Core.Path.{_≡_, refl, _∙_}
 use Prim.Native.Nat.{_-_, _≤_}
@@ -6,15 +6,15 @@ use native.Mathlib.Omega.{arith}
 use lib.ListN.{length}
 use borrow.Author.Needs.{needs}
 use denote.Ref.{now}
 use Rattle.inject.specs.Ops.{opsOf}
 use Rattle.inject.specs.Points.{under}
-use Rattle.inject.specs.Answers.{columnsOf}
-use Rattle.inject.specs.Steps.{laidFrom}
+use Rattle.inject_columns.specs.Answers.{columnsOf}
+use Rattle.inject_columns.specs.Steps.{laidFrom}
 use Rattle.inject.proofs.Rests.{rest}
-use Rattle.inject.proofs.Walks.{walk-room, walk-more, walk-end}
-use Rattle.inject.proofs.Rows.{Kept, kept-all, kept, kept-trans}
-use Rattle.inject.proofs.write_groups.Statement.{statement}
-use Rattle.inject.proofs.write_groups.Tie as tie
+use Rattle.inject_columns.proofs.Walks.{walk-room, walk-more, walk-end}
+use Rattle.inject_columns.proofs.Rows.{Kept, kept-all, kept, kept-trans}
+use Rattle.inject_columns.proofs.write_groups.Statement.{statement}
+use Rattle.inject_columns.proofs.write_groups.Tie as tie
 
 abbrev Inv-loop : tie.InvT-loop
 Inv-loop kinds offsets lens geometry cause at ops₀ progresses₀ counts₀ interruptions₀ next₀ i₀ ops progresses counts interruptions next i = (i ≤ length kinds)

@@ -7,14 +7,16 @@ use native.Mathlib.Numerals.{add-one}
 use native.Mathlib.Omega.{arith}
 use lib.ListN.{length, set, replicate, length-append, length-map, length-replicate, replicate-append-replicate}
 use lib.Seq.{sets, length-sets, sets-eq}
 use Rattle.inject.specs.declared.Progress.the-variants.{None, Bytes, Whole}
 use Rattle.inject.specs.declared.Interruption.{Interruption}
 use Rattle.inject.specs.declared.Injection.{Injection}
 use Rattle.inject.specs.declared.Group.{Group}
 use Rattle.inject.specs.Points.{point}
-use Rattle.inject.specs.Answers.{PointColumns, columnsOf, progressCode, countCode, interruptionCode, begun, written}
-use Rattle.inject.specs.Steps.{steps, grouped, laid, laidFrom, bytesAt, Room, Rows, rows}
+use Rattle.inject.specs.Answers.{progressCode, countCode, interruptionCode}
+use Rattle.inject_columns.specs.Answers.{PointColumns, columnsOf, begun, written}
+use Rattle.inject.specs.Steps.{steps, grouped}
+use Rattle.inject_columns.specs.Steps.{laid, laidFrom, bytesAt, Room, Rows, rows}
 use Rattle.inject.proofs.Groups.{length-steps}
 
 -- ---- a run of stores, and then more of them
 

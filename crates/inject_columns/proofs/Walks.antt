@@ -5,15 +5,16 @@ use Prim.Native.Nat.{ℕ, _+_, _≤_, _<_}
 use native.Mathlib.Omega.{arith}
 use lib.ListN.{length}
 use Rattle.storage.specs.declared.Geometry.{Geometry}
 use Rattle.inject.specs.declared.Interruption.{Interruption}
 use Rattle.inject.specs.declared.Injection.{Injection}
 use Rattle.inject.specs.declared.Group.{Group}
 use Rattle.inject.specs.Ops.{opsOf}
 use Rattle.inject.specs.Points.{point, under}
-use Rattle.inject.specs.Answers.{PointColumns}
-use Rattle.inject.specs.Steps.{Sound, opAt, grouped, GroupOf, laidFrom, Room, Rows, rows}
+use Rattle.inject_columns.specs.Answers.{PointColumns}
+use Rattle.inject.specs.Steps.{Sound, opAt, grouped, GroupOf}
+use Rattle.inject_columns.specs.Steps.{laidFrom, Room, Rows, rows}
 use Rattle.inject.proofs.Rests.{rest, rest-step, rest-length, rest-end}
-use Rattle.inject.proofs.Rows.{Kept, kept-room, rest-rows, no-rows}
+use Rattle.inject_columns.proofs.Rows.{Kept, kept-room, rest-rows, no-rows}
 
 module _ (g : Geometry) (w : Interruption) (ks os ls : List ℕ) (s : Sound g ks os ls)
     (i : ℕ) (h : i < length ks) (r : Group) (q : GroupOf g w (opAt ks os ls i) r) where

@@ -1,9 +1,9 @@
--- `inject::injections` meets its contract: the number that refuses, too few rows, or every point written from the first row on.
+-- `inject_columns::injections` meets its contract: the number that refuses, too few rows, or every point written from the first row on.
 -- Assumes nothing.
 use borrow.Author.Needs.{needs}
-use Rattle.inject.proofs.Listings.{write-refused, write-sound, write-short, write-room, write-done}
-use Rattle.inject.proofs.injections.Statement.{statement}
-use Rattle.inject.proofs.injections.Tie as tie
+use Rattle.inject_columns.proofs.Listings.{write-refused, write-sound, write-short, write-room, write-done}
+use Rattle.inject_columns.proofs.injections.Statement.{statement}
+use Rattle.inject_columns.proofs.injections.Tie as tie
 
 count-beside-requires : tie.Need-count-beside-requires
 count-beside-requires c κs = search needs

@@ -1,16 +1,16 @@
--- `inject::write_same` meets its contract. The invariant: `done` rows of the point are stored, up to `next`. Assumes nothing.
+-- `inject_columns::write_same` meets its contract. The invariant: `done` rows of the point are stored, up to `next`. Assumes nothing.
 use mathlib.Core.Path.{_≡_, sym}
 use Prim.Native.Nat.{_+_, _-_, _≤_}
 use native.Mathlib.Omega.{arith}
 use native.Mathlib.Nat.{add-zero}
 use lib.ListN.{replicate}
 use borrow.Author.Needs.{needs}
 use Rattle.inject.specs.Points.{point}
-use Rattle.inject.specs.Answers.{columnsOf}
-use Rattle.inject.specs.Steps.{laidFrom, rows}
-use Rattle.inject.proofs.Rows.{no-rows, same-rows, kept, kept-room}
-use Rattle.inject.proofs.write_same.Statement.{statement}
-use Rattle.inject.proofs.write_same.Tie as tie
+use Rattle.inject_columns.specs.Answers.{columnsOf}
+use Rattle.inject_columns.specs.Steps.{laidFrom, rows}
+use Rattle.inject_columns.proofs.Rows.{no-rows, same-rows, kept, kept-room}
+use Rattle.inject_columns.proofs.write_same.Statement.{statement}
+use Rattle.inject_columns.proofs.write_same.Tie as tie
 
 abbrev Inv-loop : tie.InvT-loop
 Inv-loop times progress op cause at ops₀ progresses₀ counts₀ interruptions₀ next₀ done₀ ops progresses counts interruptions next done = (done ≤ times) × (next ≡ at + done)

@@ -9,15 +9,17 @@ use lib.Dec.{eqb}
 use borrow.Author.Tests.{ne-eqb, eqb-true, le-leb, lt-leb}
 use Rattle.basics.specs.Tests.{unless, firstOf}
 use Rattle.storage.specs.declared.Geometry.{Geometry}
 use Rattle.inject.specs.declared.Injection.{Injection}
 use Rattle.inject.specs.declared.Counted.{Counted}
 use Rattle.inject.specs.declared.Counted.the-variants.{Points, NotCounted}
-use Rattle.inject.specs.declared.Written.the-variants.{All, NotWritten}
-use Rattle.inject.specs.Answers.{listTest, pointsOf, countedBeside, PointColumns, equalColumns, written, listing, listed}
-use Rattle.inject.specs.Steps.{Sound, laidFrom, Room, Rows, rows}
+use Rattle.inject_columns.specs.declared.Written.the-variants.{All, NotWritten}
+use Rattle.inject.specs.Answers.{listTest, pointsOf, countedBeside}
+use Rattle.inject_columns.specs.Answers.{PointColumns, equalColumns, written, listing, listed}
+use Rattle.inject.specs.Steps.{Sound}
+use Rattle.inject_columns.specs.Steps.{laidFrom, Room, Rows, rows}
 use Rattle.inject.proofs.Refusals.{passes}
 use Rattle.inject.proofs.Whole.{not-counted, was-counted}
-use Rattle.inject.proofs.Rows.{then-rows, first-room, next-room, begun-rows}
+use Rattle.inject_columns.proofs.Rows.{then-rows, first-room, next-room, begun-rows}
 
 -- ---- a list that is written in two parts
 

@@ -1,20 +1,20 @@
--- `inject::write_point` meets its contract: the four stores are one row. Assumes nothing.
+-- `inject_columns::write_point` meets its contract: the four stores are one row. Assumes nothing.
 use borrow.Author.Needs.{needs}
-use Rattle.inject.specs.Steps.{laid}
-use Rattle.inject.proofs.write_point.Statement.{statement}
-use Rattle.inject.proofs.write_point.Tie as tie
+use Rattle.inject_columns.specs.Steps.{laid}
+use Rattle.inject_columns.proofs.write_point.Statement.{statement}
+use Rattle.inject_columns.proofs.write_point.Tie as tie
 
 cast-op : tie.Need-cast-op
 cast-op c = search needs
 
-code-requires : tie.Need-code-requires
-code-requires c κs = search needs
+progress-code-requires : tie.Need-progress-code-requires
+progress-code-requires c κs = search needs
 
-bytes-requires : tie.Need-bytes-requires
-bytes-requires c κs = search needs
+byte-count-requires : tie.Need-byte-count-requires
+byte-count-requires c κs = search needs
 
-code-requires-2 : tie.Need-code-requires-2
-code-requires-2 c κs = search needs
+cause-code-requires : tie.Need-cause-code-requires
+cause-code-requires c κs = search needs
 
 mul-ops : tie.Need-mul-ops
 mul-ops c = search needs
@@ -48,16 +48,16 @@ same-length-4 c = search needs
 
 returns : tie.Need-returns
 unfolding laid
-returns c = rw (c .before .before .code .ensures, c .before .bytes .ensures, c .code2 .ensures)
+returns c = rw (c .before .before .progress-code .ensures, c .before .byte-count .ensures, c .cause-code .ensures)
 
 pub write-point-spec : {M : Type 1} → statement M
 write-point-spec =
     tie.close
     (tie.spec
     cast-op
-    code-requires
-    bytes-requires
-    code-requires-2
+    progress-code-requires
+    byte-count-requires
+    cause-code-requires
     mul-ops
     slice-write-ops
     slice-write-progresses

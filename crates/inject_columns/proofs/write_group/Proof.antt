@@ -1,8 +1,8 @@
--- `inject::write_group` meets its contract: none points, byte points and whole points, one part after the other. Assumes nothing.
+-- `inject_columns::write_group` meets its contract: none points, byte points and whole points, one part after the other. Assumes nothing.
 use borrow.Author.Needs.{needs}
-use Rattle.inject.proofs.Rows.{nones-room, bytes-room, wholes-room, group-rows}
-use Rattle.inject.proofs.write_group.Statement.{statement}
-use Rattle.inject.proofs.write_group.Tie as tie
+use Rattle.inject_columns.proofs.Rows.{nones-room, bytes-room, wholes-room, group-rows}
+use Rattle.inject_columns.proofs.write_group.Statement.{statement}
+use Rattle.inject_columns.proofs.write_group.Tie as tie
 
 -- the ways back to the first two calls
 abbrev nones-done : tie.After-slice-known8 → tie.After-write-same

@@ -1,17 +1,17 @@
--- `inject::write_later` meets its contract: an empty list's point with the watchdog points, and then the failures. Assumes nothing.
+-- `inject_columns::write_later` meets its contract: an empty list's point with the watchdog points, and then the failures. Assumes nothing.
 use mathlib.Core.Path.{_≡_}
 use mathlib.Core.List.{List, _++_}
 use borrow.Author.Needs.{needs}
 use denote.Ref.{now}
 use Rattle.inject.specs.declared.Injection.{Injection}
 use Rattle.inject.specs.declared.Interruption.the-variants.{Watchdog, Failure}
 use Rattle.inject.specs.Ops.{opsOf}
 use Rattle.inject.specs.Points.{under}
-use Rattle.inject.specs.Steps.{partOf, laterOf}
-use Rattle.inject.proofs.Whole.{later-in-two}
-use Rattle.inject.proofs.Listings.{room-first, room-second, both-rows}
-use Rattle.inject.proofs.write_later.Statement.{statement}
-use Rattle.inject.proofs.write_later.Tie as tie
+use Rattle.inject_columns.specs.Steps.{partOf, laterOf}
+use Rattle.inject_columns.proofs.Order.{later-in-two}
+use Rattle.inject_columns.proofs.Listings.{room-first, room-second, both-rows}
+use Rattle.inject_columns.proofs.write_later.Statement.{statement}
+use Rattle.inject_columns.proofs.write_later.Tie as tie
 
 -- the ways back to the two calls, to the count before them and to the start
 abbrev reset-done : tie.After-slice-known8 → tie.After-write-part

@@ -1,16 +1,16 @@
--- `inject::write_part` meets its contract: the none point of operation 0, and then the operations' points. Assumes nothing.
+-- `inject_columns::write_part` meets its contract: the none point of operation 0, and then the operations' points. Assumes nothing.
 use mathlib.Core.List.{List}
 use lib.ListN.{replicate}
 use borrow.Author.Needs.{needs}
 use native.Mathlib.Omega.{arith}
 use denote.Ref.{now}
 use Rattle.inject.specs.declared.Progress.the-variants.{None}
 use Rattle.inject.specs.declared.Injection.{Injection}
 use Rattle.inject.specs.Ops.{opsOf}
 use Rattle.inject.specs.Points.{point, under}
-use Rattle.inject.proofs.Rows.{first-room, next-room, same-room, then-rows}
-use Rattle.inject.proofs.write_part.Statement.{statement}
-use Rattle.inject.proofs.write_part.Tie as tie
+use Rattle.inject_columns.proofs.Rows.{first-room, next-room, same-room, then-rows}
+use Rattle.inject_columns.proofs.write_part.Statement.{statement}
+use Rattle.inject_columns.proofs.write_part.Tie as tie
 
 -- the two parts
 abbrev same : tie.Start → List Injection
