@@ -2,7 +2,6 @@
 pub mod Ands
 pub mod Pairs
 pub mod Cells
-pub mod Spans
 pub mod Applied
 pub mod Programming
 pub mod Erasing

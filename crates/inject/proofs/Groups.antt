@@ -8,6 +8,7 @@ use native.Mathlib.Numerals.{add-one}
 use native.Mathlib.Omega.{arith}
 use lib.ListN.{length, getD, replicate, length-append, length-map, length-replicate, getD-replicate, List·getD-append}
 use lib.Seq.{getD-at, getD-append-add}
+use Rattle.basics.proofs.Lists.{getD-map-lt}
 use Rattle.storage.specs.declared.Geometry.{Geometry}
 use Rattle.inject.specs.declared.Op.{Op}
 use Rattle.inject.specs.declared.Op.the-variants.{Program, Erase, Barrier}
@@ -18,7 +19,6 @@ use Rattle.inject.specs.declared.Group.{Group}
 use Rattle.inject.specs.Ops.{lenOf}
 use Rattle.inject.specs.Points.{inner, tearPoints, resetPoints, bytePoints, nonePoint, wholeSpan, wholePoint, progresses}
 use Rattle.inject.specs.Steps.{tearUnit, resetUnit, steps, grouped, Small, GroupOf}
-use Rattle.inject.proofs.Searches.{getD-map-lt}
 
 -- ---- the two units
 
