@@ -10,12 +10,12 @@ use lib.Dec.{eqb}
 use borrow.Author.Tests.{eq-eqb, ne-eqb}
 use Rattle.basics.specs.Parts.{part}
 use Rattle.basics.proofs.Tests.{unless-holds, unless-fails, firstOf-pass, firstOf-stop}
-use Rattle.device.specs.declared.FaultError.{FaultError}
-use Rattle.device.specs.declared.Reply.{Reply}
-use Rattle.device.specs.declared.Reply.the-variants.{Accepted, Refused}
-use Rattle.device.specs.Answers.{numberOfFault, numberOfReply, replied}
-use Rattle.device.specs.Calls.{mediaTest, readRefusal, Called, readCall}
-use Rattle.device.proofs.Replies.{read-number}
+use Rattle.device_calls.specs.declared.FaultError.{FaultError}
+use Rattle.device_calls.specs.declared.Reply.{Reply}
+use Rattle.device_calls.specs.declared.Reply.the-variants.{Accepted, Refused}
+use Rattle.device_calls.specs.Answers.{numberOfFault, numberOfReply, replied}
+use Rattle.device_calls.specs.Calls.{mediaTest, readRefusal, Called, readCall}
+use Rattle.device_calls.proofs.Replies.{read-number}
 use Rattle.landing.specs.Ending.{stopNumber}
 use Rattle.session.specs.declared.Told.{Told}
 use Rattle.session.specs.declared.Counters.{Counters}

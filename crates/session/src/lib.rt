@@ -471,10 +471,10 @@ pub fn read(told: Told, counters: Counters, media: &[u8], offset: u32, dst: &mut
     if stopped != 0 {
         return stopped;
     }
-    let reply = device::read(geometry, media, offset, dst);
+    let reply = device_calls::read(geometry, media, offset, dst);
     match reply {
-        device::Reply::Accepted => 0,
-        device::Reply::Refused(fault) => fault.number(),
+        device_calls::Reply::Accepted => 0,
+        device_calls::Reply::Refused(fault) => fault.number(),
     }
 }
 

@@ -13,7 +13,7 @@ use Rattle.basics.specs.Parts.{part, overlaid}
 use Rattle.basics.proofs.Parts.{length-part}
 use Rattle.device.specs.declared.Postimage.{Postimage}
 use Rattle.device.specs.Media.{Applied, applied, programmed, postimage, anyChanged}
-use Rattle.device.specs.Calls.{Copied, copied}
+use Rattle.device.specs.Answers.{Copied, copied}
 use Rattle.device.proofs.Cells.{length-anded}
 use Rattle.landing.proofs.Bounds.{program-landed-le}
 use Rattle.session.specs.declared.Told.{Told}

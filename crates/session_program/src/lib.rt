@@ -47,7 +47,7 @@ fn bit_refusal(bits: OneWayBits, media: &[u8], offset: u32, bytes: &[u8]) -> u32
     match bits {
         OneWayBits::Absorbed => 0,
         OneWayBits::Rejected => {
-            if device::would_set_a_bit(media, offset, bytes) {
+            if device_questions::would_set_a_bit(media, offset, bytes) {
                 20
             } else {
                 0
