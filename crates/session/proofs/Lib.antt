@@ -3,3 +3,4 @@ pub mod Refusals
 pub mod Calls
 pub mod Fetches
 pub mod Laws
+pub mod Writing

@@ -24,7 +24,8 @@ ghost use lib.ListN.{length};
 ghost use Rattle.basics.specs.Tests.{flag};
 ghost use Rattle.session.specs.Log.{logOf, logged, marksOf, markOf, marked};
 ghost use Rattle.session.specs.Tests.{logUneven, marksUneven, sizeTest, logLengthTest, marksLengthTest, marksNumber, startNumber, operationTest};
-ghost use Rattle.session.specs.Armed.{armedOn, isArmed, barrierRan, endedBy, nextCount, replied, writeReply};
+ghost use Rattle.session.specs.Armed.{armedOn, isArmed, barrierRan, endedBy, nextCount, replied};
+ghost use Rattle.session.specs.Written.{plannedAt};
 ghost use Rattle.session.specs.Start.{opened, started};
 ghost use Rattle.session.specs.Barrier.{barrierNumber, barrierReply, ordered, barriered};
 ghost use Rattle.session.specs.Read.{fetched, readBy};
@@ -74,6 +75,12 @@ pub struct Entry {
     pub digest: u64,
     pub changed: u8,
     pub answered: u8,
+}
+
+// What a program or an erase that is not refused will do: how much of it lands, and its reply.
+pub struct Plan {
+    pub landed: u32,
+    pub reply: Called,
 }
 
 // What a start answers: the fresh counters, or the number that refuses.
@@ -231,28 +238,25 @@ pub fn reply_of(counters: Counters, armed: Armed, ending: Ending) -> Called
     }
 }
 
-// The reply to a program or an erase that is taken with `armed` armed on it, and of which `rest` bytes from `place` on did not
-// land. Their place is remembered, for the ledger to compare the copy with the media.
-pub fn write_reply(
-    counters: Counters,
-    armed: Armed,
-    completed: bool,
-    place: u32,
-    rest: u32,
-) -> Called
-    ensures { λ r. ⌜ r ≡ writeReply counters armed completed place rest ⌝ }
+// What a program or an erase of which `landed` bytes land will do, with `armed` armed on it: its reply, which remembers where
+// those that did not land start (`place`) and how many they are, for the ledger to compare the copy with the media.
+pub fn planned(counters: Counters, armed: Armed, len: u32, landed: u32, place: u32) -> Plan
+    ensures { λ r. ⌜ r ≡ plannedAt counters armed len landed place ⌝ }
 {
-    let ending = ended_by(armed, completed);
+    let ending = ended_by(armed, landed == len);
     let reply = reply_of(counters, armed, ending);
-    if rest == 0 {
-        return reply;
+    if landed >= len {
+        return Plan { landed, reply };
     }
     let mut next = reply.counters;
     next.place = place;
-    next.withheld = rest;
-    Called {
-        answer: reply.answer,
-        counters: next,
+    next.withheld = len - landed;
+    Plan {
+        landed,
+        reply: Called {
+            answer: reply.answer,
+            counters: next,
+        },
     }
 }
 
