@@ -221,7 +221,7 @@ pub extern "C" fn session_start(
     ensures { λ r. ⌜ startLeft r (now (state .exit)) (now (media .exit)) ≡ openedOver (now (state .entry)) (started (toldOf (now (told .entry))) (now (media .entry)) (length (now (copy .entry))) (logOf (now (kinds .entry)) (now (offsets .entry)) (now (lens .entry)) (now (digests .entry)) (now (changed .entry)) (now (answered .entry))) (marksOf (now (codes .entry)) (now (ids .entry)) (now (places .entry)))) ⌝ }
 {
     let given = told_of(told);
-    let begun = session::start(
+    let begun = session_calls::start(
         given,
         media,
         copy,
@@ -338,7 +338,7 @@ pub extern "C" fn session_barrier(
 {
     let given = told_of(told);
     let counters = counters_of(state);
-    let ordered = session::barrier(
+    let ordered = session_calls::barrier(
         given,
         counters,
         kinds,
@@ -366,7 +366,7 @@ pub extern "C" fn session_read(
 {
     let given = told_of(told);
     let counters = counters_of(state);
-    session::read(given, counters, media, offset, dst)
+    session_calls::read(given, counters, media, offset, dst)
 }
 
 // `begin_record`: its answer, and the counters and the marks after it.
@@ -381,7 +381,7 @@ pub extern "C" fn session_begin(
     ensures { λ r. ⌜ markLeft r (now (state .exit)) (marksOf (now (codes .exit)) (now (ids .exit)) (now (places .exit))) ≡ notedOver (now (state .entry)) (begun (countersOf (now (state .entry))) id (marksOf (now (codes .entry)) (now (ids .entry)) (now (places .entry)))) ⌝ }
 {
     let counters = counters_of(state);
-    let opened = session::begin_record(counters, id, codes, ids, places);
+    let opened = session_marks::begin_record(counters, id, codes, ids, places);
     let next = opened.counters;
     keep(state, next);
     opened.answer
@@ -398,7 +398,7 @@ pub extern "C" fn session_end(
     ensures { λ r. ⌜ markLeft r (now (state .exit)) (marksOf (now (codes .exit)) (now (ids .exit)) (now (places .exit))) ≡ notedOver (now (state .entry)) (ended (countersOf (now (state .entry))) (marksOf (now (codes .entry)) (now (ids .entry)) (now (places .entry)))) ⌝ }
 {
     let counters = counters_of(state);
-    let closed = session::end_record(counters, codes, ids, places);
+    let closed = session_marks::end_record(counters, codes, ids, places);
     let next = closed.counters;
     keep(state, next);
     closed.answer
@@ -418,7 +418,7 @@ pub extern "C" fn session_mark_operations(
     ensures { λ r. ⌜ markLeft r (now (state .exit)) (marksOf (now (codes .exit)) (now (ids .exit)) (now (places .exit))) ≡ notedOver (now (state .entry)) (rangeMarked (countersOf (now (state .entry))) id from to (marksOf (now (codes .entry)) (now (ids .entry)) (now (places .entry)))) ⌝ }
 {
     let counters = counters_of(state);
-    let marked = session::mark_operations(counters, id, from, to, codes, ids, places);
+    let marked = session_marks::mark_operations(counters, id, from, to, codes, ids, places);
     let next = marked.counters;
     keep(state, next);
     marked.answer

@@ -20,9 +20,10 @@ use Rattle.session.specs.declared.Told.{Told}
 use Rattle.session.specs.declared.Armed.{Armed}
 use Rattle.session.specs.declared.Armed.the-variants.{Nothing, At}
 use Rattle.session.specs.declared.Counters.{Counters}
+use Rattle.session.specs.declared.Plan.{Plan}
 use Rattle.session.specs.Armed.{armedOn, programLands}
-use Rattle.session_program.specs.declared.Plan.{Plan}
-use Rattle.session_program.specs.Program.{programPlan, Landing, programLanding}
+use Rattle.session.specs.Written.{Landing}
+use Rattle.session_program.specs.Program.{programPlan, programLanding}
 
 -- no more lands than the length
 pub lands-le : (a : Armed) (len unit : ℕ) → programLands a len unit ≤ len

@@ -26,7 +26,8 @@ use Rattle.session.specs.Tests.{sizeTest, logTest, marksTest, marksLengthTest, 
 use Rattle.session.specs.Armed.{armedOn, isArmed}
 use Rattle.session.specs.Barrier.{barrierNumber, barrierTest}
 use Rattle.session.specs.Marks.{notedTest, noting, markedFrom, notedBy}
-use Rattle.session.proofs.Refusals.{operation-room, marks-fit}
+use Rattle.session.proofs.Refusals.{operation-room}
+use Rattle.session_marks.proofs.Rows.{marks-fit}
 use Rattle.session.proofs.Laws.{barrier-refuses, barrier-takes}
 use Rattle.session_erase.specs.Erase.{eraseNumber, eraseNumberOf}
 use Rattle.session_erase.proofs.Laws.{erase-refuses, erase-takes}
