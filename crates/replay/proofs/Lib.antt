@@ -1,0 +1,3 @@
+-- Laws of a list of calls in columns.
+pub mod One
+pub mod Scanned
