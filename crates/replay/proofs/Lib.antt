@@ -1,3 +1,4 @@
 -- Laws of a list of calls in columns.
 pub mod One
 pub mod Scanned
+pub mod Turns

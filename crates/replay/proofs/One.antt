@@ -1,8 +1,13 @@
 -- The calls by their codes. Each is what the session's function of that kind leaves. Assumes nothing.
 use mathlib.Core.Path.{_≡_, ap, _∙_}
+use mathlib.Core.Bool.{false, _&&_}
 use mathlib.Core.List.{List}
-use Prim.Native.Nat.{ℕ}
-use borrow.Author.Tests.{eq-eqb, ne-eqb}
+use Prim.Native.Nat.{ℕ, _+_, _-_, _≤_}
+use lib.ListN.{length, take, drop}
+use lib.Dec.{eqb, ltb}
+use borrow.Author.Tests.{eq-eqb, ne-eqb, ltb-false}
+use Rattle.basics.specs.Parts.{part}
+use Rattle.basics.proofs.Parts.{part-lent}
 use Rattle.session.specs.declared.Told.{Told}
 use Rattle.session.specs.declared.Counters.{Counters}
 use Rattle.session.specs.declared.Called.{Called}
@@ -16,16 +21,23 @@ use Rattle.threaded.specs.Threaded.{Session, afterWrite, afterBarrier, afterMar
 use Rattle.replay.specs.Calls.{callBy}
 use Rattle.replay.specs.Scans.{sessionOf, answeredOf}
 
-module _ (t : Told) (c : Counters) (kind id offset len : ℕ) (bytes media copy : List ℕ) (l : Log) (m : Marks) (r : Called) where
+-- a program that is not outside the pool is within it
+pub within-pool : (kind pool end : ℕ) → kind ≡ 0 → (eqb kind 0 && ltb pool end) ≡ false → end ≤ pool
+within-pool kind pool end k h = ltb-false pool end (rw (eq-eqb kind 0 k) at h)
+
+module _ (t : Told) (c : Counters) (kind id offset len : ℕ) (media copy : List ℕ) (l : Log) (m : Marks) (r : Called) where
   abbrev s : Session
   s = sessionOf c media copy l m
 
-  pub one-program : kind ≡ 0 → (media′ copy′ : List ℕ) (l′ : Log) → written r media′ copy′ l′ ≡ programCall t c offset bytes media copy l
-      → answeredOf r media′ copy′ l′ m ≡ answered t s (callBy kind id offset len bytes)
+  -- a program's bytes are lent out of the pool
+  pub one-program : kind ≡ 0 → (start : ℕ) (pool : List ℕ) → (eqb kind 0 && ltb (length pool) (start + len)) ≡ false → (media′ copy′ : List ℕ) (l′ : Log)
+      → written r media′ copy′ l′ ≡ programCall t c offset (take (start + len - start) (drop start pool)) media copy l
+      → answeredOf r media′ copy′ l′ m ≡ answered t s (callBy kind id offset len (part pool start len))
   unfolding callBy answered
-  one-program k media′ copy′ l′ e = rw (eq-eqb kind 0 k) (ap (afterWrite s) e)
+  one-program k start pool h media′ copy′ l′ e =
+      rw (eq-eqb kind 0 k, ← part-lent pool start len (within-pool kind (length pool) (start + len) k h)) (ap (afterWrite s) e)
 
-  module _ (n0 : kind ≡ 0 → ⊥) where
+  module _ (bytes : List ℕ) (n0 : kind ≡ 0 → ⊥) where
     pub one-erase : kind ≡ 1 → (media′ copy′ : List ℕ) (l′ : Log) → written r media′ copy′ l′ ≡ eraseCall t c offset len media copy l
         → answeredOf r media′ copy′ l′ m ≡ answered t s (callBy kind id offset len bytes)
     unfolding callBy answered

@@ -122,6 +122,9 @@ calls-even k i o l s e =
     let u3 = not (eqb l k) in
     let u4 = not (eqb s k) in
     let three : (u1 || u2 || u3) ≡ false = false-left (u1 || u2 || u3) u4 e in
-    let two : (u1 || u2) ≡ false = false-left (u1 || u2) u3 three in
-    (eqb-true i k (not-false (eqb i k) (false-left u1 u2 two)), eqb-true o k (not-false (eqb o k) (false-right u1 u2 two)),
-     eqb-true l k (not-false (eqb l k) (false-right (u1 || u2) u3 three)), eqb-true s k (not-false (eqb s k) (false-right (u1 || u2 || u3) u4 e)))
+    let two : (u1 || u2) ≡ false = false-left (u1 || u2) u3 three in (
+      eqb-true i k (not-false (eqb i k) (false-left u1 u2 two)),
+      eqb-true o k (not-false (eqb o k) (false-right u1 u2 two)),
+      eqb-true l k (not-false (eqb l k) (false-right (u1 || u2) u3 three)),
+      eqb-true s k (not-false (eqb s k) (false-right (u1 || u2 || u3) u4 e)),
+    )

@@ -5,16 +5,17 @@ use session::Called;
 use session::Counters;
 use session::Told;
 ghost use mathlib.Core.Path.{_≡_};
-ghost use mathlib.Core.Bool.{_&&_};
+ghost use mathlib.Core.Bool.{false, _&&_};
 ghost use Prim.Native.Nat.{_+_, _≤_};
 ghost use lib.ListN.{length};
 ghost use lib.Dec.{eqb, ltb};
+ghost use Rattle.basics.specs.Parts.{part};
 ghost use Rattle.model.specs.Columns.{allUpTo};
 ghost use Rattle.session.specs.Log.{logOf, marksOf};
 ghost use Rattle.threaded.specs.Threaded as thread;
 ghost use Rattle.replay.specs.Calls.{callBy, callsUneven, anyOutside};
-ghost use Rattle.replay.specs.Replay.{calls, lower, callsTest, entriesTest};
-ghost use Rattle.replay.specs.Scans.{beginsFrom, sessionOf, answeredOf, Even};
+ghost use Rattle.replay.specs.Replay.{calls, listOf, lower, callsTest, entriesTest};
+ghost use Rattle.replay.specs.Scans.{beginsFrom, sessionOf, answeredOf, Ready, ran, ranBy};
 
 // ---- tests
 
@@ -37,7 +38,6 @@ fn calls_uneven(kinds: usize, ids: usize, offsets: usize, lens: usize, starts: u
 {
     (ids != kinds) | (offsets != kinds) | (lens != kinds) | (starts != kinds)
 }
-
 
 // Whether a call is a program whose bytes are not all in a pool of this length.
 fn is_outside(kind: u8, start: u32, len: u32, pool: usize) -> bool
@@ -119,7 +119,7 @@ fn entries_refusal(entries: usize, ids: usize, states: usize, torn: usize) -> u3
 
 // ---- calls
 
-// One call.
+// One call. The bytes of a program are in the pool.
 fn call(
     told: Told,
     counters: Counters,
@@ -127,7 +127,8 @@ fn call(
     id: u32,
     offset: u32,
     len: u32,
-    bytes: &[u8],
+    start: u32,
+    pool: &[u8],
     media: &mut [u8],
     copy: &mut [u8],
     ops: &mut [u8],
@@ -140,14 +141,17 @@ fn call(
     named: &mut [u32],
     places: &mut [u64],
 ) -> Called
-    ensures { λ r. ⌜ answeredOf r (now (media .exit)) (now (copy .exit)) (logOf (now (ops .exit)) (now (spans .exit)) (now (sizes .exit)) (now (digests .exit)) (now (changed .exit)) (now (answered .exit))) (marksOf (now (marks .exit)) (now (named .exit)) (now (places .exit))) ≡ thread.answered told (sessionOf counters (now (media .entry)) (now (copy .entry)) (logOf (now (ops .entry)) (now (spans .entry)) (now (sizes .entry)) (now (digests .entry)) (now (changed .entry)) (now (answered .entry))) (marksOf (now (marks .entry)) (now (named .entry)) (now (places .entry)))) (callBy kind id offset len (now (bytes .entry))) ⌝ }
+    requires { ⌜ (eqb kind 0 && ltb (length (now pool)) (start + len)) ≡ false ⌝ }
+    ensures { λ r. ⌜ answeredOf r (now (media .exit)) (now (copy .exit)) (logOf (now (ops .exit)) (now (spans .exit)) (now (sizes .exit)) (now (digests .exit)) (now (changed .exit)) (now (answered .exit))) (marksOf (now (marks .exit)) (now (named .exit)) (now (places .exit))) ≡ thread.answered told (sessionOf counters (now (media .entry)) (now (copy .entry)) (logOf (now (ops .entry)) (now (spans .entry)) (now (sizes .entry)) (now (digests .entry)) (now (changed .entry)) (now (answered .entry))) (marksOf (now (marks .entry)) (now (named .entry)) (now (places .entry)))) (callBy kind id offset len (part (now (pool .entry)) start len)) ⌝ }
 {
     if kind == 0 {
+        let from = start as usize;
+        let to = from + len as usize;
         return session_program::program(
             told,
             counters,
             offset,
-            bytes,
+            &pool[from..to],
             media,
             copy,
             ops,
@@ -190,4 +194,62 @@ fn call(
         return session_marks::begin_record(counters, id, marks, named, places);
     }
     session_marks::end_record(counters, marks, named, places)
+}
+
+// Every call in turn, its answer stored. Returns the counters that the last one left.
+fn run_calls(
+    told: Told,
+    fresh: Counters,
+    kinds: &[u8],
+    ids: &[u32],
+    offsets: &[u32],
+    lens: &[u32],
+    starts: &[u32],
+    pool: &[u8],
+    answers: &mut [u32],
+    media: &mut [u8],
+    copy: &mut [u8],
+    ops: &mut [u8],
+    spans: &mut [u32],
+    sizes: &mut [u32],
+    digests: &mut [u64],
+    changed: &mut [u8],
+    answered: &mut [u8],
+    marks: &mut [u8],
+    named: &mut [u32],
+    places: &mut [u64],
+) -> Counters
+    requires { ⌜ Ready (calls (now kinds) (now ids) (now offsets) (now lens) (now starts) (now pool)) (now answers) ⌝ }
+    ensures { λ r. ⌜ ran (sessionOf r (now (media .exit)) (now (copy .exit)) (logOf (now (ops .exit)) (now (spans .exit)) (now (sizes .exit)) (now (digests .exit)) (now (changed .exit)) (now (answered .exit))) (marksOf (now (marks .exit)) (now (named .exit)) (now (places .exit)))) (now (answers .exit)) ≡ ranBy (thread.threaded told (sessionOf fresh (now (media .entry)) (now (copy .entry)) (logOf (now (ops .entry)) (now (spans .entry)) (now (sizes .entry)) (now (digests .entry)) (now (changed .entry)) (now (answered .entry))) (marksOf (now (marks .entry)) (now (named .entry)) (now (places .entry)))) (listOf (calls (now (kinds .entry)) (now (ids .entry)) (now (offsets .entry)) (now (lens .entry)) (now (starts .entry)) (now (pool .entry))))) (now (answers .entry)) ⌝ }
+{
+    let mut counters = fresh;
+    let mut i = 0;
+    while i < kinds.len() {
+        let next = i + 1;
+        let called = call(
+            told,
+            counters,
+            kinds[i],
+            ids[i],
+            offsets[i],
+            lens[i],
+            starts[i],
+            pool,
+            media,
+            copy,
+            ops,
+            spans,
+            sizes,
+            digests,
+            changed,
+            answered,
+            marks,
+            named,
+            places,
+        );
+        answers[i] = called.answer;
+        counters = called.counters;
+        i = next;
+    }
+    counters
 }

@@ -37,7 +37,7 @@ is-outside-requires : tie.Need-is-outside-requires Inv-loop μ-loop
 is-outside-requires c κs = search needs
 
 returns : tie.Need-returns Inv-loop μ-loop
-returns c = 
+returns c =
     let l = c .before .before .before .before .before .before in
     outside-found (l .before .before .before .before .args .pool) (l .before .before .before .before .args .kinds .now) (l .before .before .before .before .args .lens .now) (l .before .before .before .before .args .starts .now) (l .before .before .before .before .pre .0) (l .before .before .before .before .pre .1) (l .loop .i) (l .loop .inv .1) (omega arith) (sym (c .before .is-outside .ensures) ∙ c .if1 .taken)
 
@@ -48,12 +48,12 @@ loop-less : tie.Need-loop-less Inv-loop μ-loop
 loop-less c = search needs
 
 loop-again : tie.Need-loop-again Inv-loop μ-loop
-loop-again c = 
+loop-again c =
     let l = c .before .before .before .before .before .before in
     (omega arith, outside-next (l .before .before .before .before .args .pool) (l .before .before .before .before .args .kinds .now) (l .before .before .before .before .args .lens .now) (l .before .before .before .before .args .starts .now) (l .before .before .before .before .pre .0) (l .before .before .before .before .pre .1) (l .loop .i) (l .loop .inv .1) (omega arith) (sym (c .before .is-outside .ensures) ∙ c .if1 .left))
 
 returns-2 : tie.Need-returns-2 Inv-loop μ-loop
-returns-2 c = 
+returns-2 c =
     let l = c .before in
     outside-none (l .before .before .before .before .args .pool) (l .before .before .before .before .args .kinds .now) (l .before .before .before .before .args .lens .now) (l .before .before .before .before .args .starts .now) (l .before .before .before .before .pre .0) (l .before .before .before .before .pre .1) (l .loop .i) (l .loop .inv .1) (omega arith)
 

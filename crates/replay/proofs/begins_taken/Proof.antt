@@ -30,7 +30,7 @@ cast-begins : tie.Need-cast-begins Inv-loop μ-loop
 cast-begins c = search needs
 
 add-begins : tie.Need-add-begins Inv-loop μ-loop
-add-begins c = 
+add-begins c =
     let l = c .before .before .before in
     omega (arith, flag-le (takes (l .loop .marks) (getD (l .before .before .args .kinds .now) (l .loop .i) 0) && eqb (getD (l .before .before .args .kinds .now) (l .loop .i) 0) 3) _ (c .flag-of .ensures), l .loop .inv .1)
 
@@ -41,7 +41,7 @@ cast-marks : tie.Need-cast-marks Inv-loop μ-loop
 cast-marks c = search needs
 
 add-marks : tie.Need-add-marks Inv-loop μ-loop
-add-marks c = 
+add-marks c =
     let l = c .before .before .before .before in
     omega (arith, flag-le (takes (l .loop .marks) (getD (l .before .before .args .kinds .now) (l .loop .i) 0)) _ (c .flag-of2 .ensures), l .loop .inv .2)
 
@@ -52,14 +52,14 @@ loop-less : tie.Need-loop-less Inv-loop μ-loop
 loop-less c = search needs
 
 loop-again : tie.Need-loop-again Inv-loop μ-loop
-loop-again c = 
+loop-again c =
     let l = c .before .before .before .before in
     let b = c .before .flag-of .ensures in
     let m = c .flag-of2 .ensures in
     (omega arith, omega (arith, flag-le (takes (l .loop .marks) (getD (l .before .before .args .kinds .now) (l .loop .i) 0) && eqb (getD (l .before .before .args .kinds .now) (l .loop .i) 0) 3) _ b), omega (arith, flag-le (takes (l .loop .marks) (getD (l .before .before .args .kinds .now) (l .loop .i) 0)) _ m), begins-row (l .before .before .args .kinds .now) (l .loop .begins) (l .loop .marks) (l .loop .i) (l .loop .inv .3) (omega arith) ∙ rw (← b, ← m))
 
 returns : tie.Need-returns Inv-loop μ-loop
-returns c = 
+returns c =
     let l = c .before in
     begins-all (l .before .before .args .kinds .now) (l .loop .begins) (l .loop .marks) (l .loop .i) (l .loop .inv .3) (omega arith)
 

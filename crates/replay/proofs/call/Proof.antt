@@ -1,8 +1,21 @@
 -- `replay::call` meets its contract: each kind by its function. Assumes nothing.
-use Rattle.replay.proofs.One.{one-program, one-erase, one-barrier, one-begin, one-end}
+use native.Mathlib.Omega.{arith}
+use Rattle.replay.proofs.One.{within-pool, one-program, one-erase, one-barrier, one-begin, one-end}
 use borrow.Author.Needs.{needs}
 use Rattle.replay.proofs.call.Statement.{statement}
 use Rattle.replay.proofs.call.Tie as tie
+
+add-to : tie.Need-add-to
+add-to c = search needs
+
+sub-program : tie.Need-sub-program
+sub-program c = search needs
+
+part-program-start : tie.Need-part-program-start
+part-program-start c = search needs
+
+part-program-end : tie.Need-part-program-end
+part-program-end c = within-pool _ _ _ (c .if1 .taken) (c .before .before .before .before .before .before .before .before .before .before .before .before .before .pre)
 
 program-requires : tie.Need-program-requires
 program-requires c κs = search needs
@@ -32,7 +45,7 @@ same-length-8 : tie.Need-same-length-8
 same-length-8 c = search needs
 
 returns : tie.Need-returns
-returns c = one-program _ _ _ _ _ _ _ _ _ _ _ _ (c .before .before .before .before .before .before .before .before .before .before .before .before .before .before .before .before .before .before .before .before .before .before .before .before .before .if1 .taken) _ _ _ (c .before .before .before .before .before .before .before .before .before .before .before .before .before .before .before .before .program .ensures)
+returns c = one-program _ _ _ _ _ _ _ _ _ _ _ (c .before .before .before .before .before .before .before .before .before .before .before .before .before .before .before .before .before .before .before .before .before .before .before .before .before .before .if1 .taken) _ _ (c .before .before .before .before .before .before .before .before .before .before .before .before .before .before .before .before .before .before .before .before .before .before .before .before .before .before .before .before .before .before .before .before .before .before .before .before .before .before .before .pre) _ _ _ (c .before .before .before .before .before .before .before .before .before .before .before .before .before .before .before .before .program .ensures)
 
 erase-requires : tie.Need-erase-requires
 erase-requires c κs = search needs
@@ -122,6 +135,10 @@ pub call-spec : {M : Type 1} → statement M
 call-spec =
     tie.close
     (tie.spec
+    add-to
+    sub-program
+    part-program-start
+    part-program-end
     program-requires
     same-length
     same-length-2
