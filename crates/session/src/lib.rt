@@ -97,7 +97,7 @@ pub fn size_refusal(geometry: Geometry, media: usize, copy: usize) -> u32
 }
 
 // Whether the log's columns are unequal.
-fn log_uneven(
+pub fn log_uneven(
     kinds: usize,
     offsets: usize,
     lens: usize,
@@ -132,7 +132,7 @@ pub fn log_refusal(
 }
 
 // Whether the marks' columns are unequal.
-fn marks_uneven(codes: usize, ids: usize, places: usize) -> bool
+pub fn marks_uneven(codes: usize, ids: usize, places: usize) -> bool
     ensures { λ r. ⌜ r ≡ marksUneven codes ids places ⌝ }
 {
     (ids != codes) | (places != codes)
