@@ -2,3 +2,5 @@
 pub mod One
 pub mod Scanned
 pub mod Turns
+pub mod Begins
+pub mod Whole

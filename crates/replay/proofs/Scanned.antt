@@ -1,19 +1,23 @@
 -- What the scans over the calls' columns find, a row at a time. Assumes nothing.
 use mathlib.Core.Path.{_≡_, sym, ap, _∙_}
 use mathlib.Core.Bool.{Bool, true, false, not, _&&_, _||_}
-use mathlib.Core.List.{List, [], _∷_}
+use mathlib.Core.List.{List, _∷_}
 use Prim.Native.Nat.{ℕ, _+_, _≤_, _<_}
 use native.Mathlib.Nat.{add-assoc}
 use native.Mathlib.Omega.{arith}
 use lib.ListN.{length, getD, drop}
-use lib.Dec.{eqb, leb, ltb}
-use borrow.Author.Tests.{le-leb, lt-leb, eq-eqb, ne-eqb, eqb-true, not-true, not-false}
+use lib.Dec.{eqb, ltb}
+use borrow.Author.Tests.{le-leb, lt-leb, eqb-true, not-true, not-false}
 use Rattle.basics.specs.Tests.{flag, unless, refuseIf, firstOf}
+use Rattle.basics.proofs.Tests.{firstOf-pass, firstOf-stop}
+use Rattle.storage.specs.declared.Geometry.{Geometry}
+use Rattle.storage.specs.Geometry.{geometryTest}
+use Rattle.session.specs.Tests.{sizeTest}
 use Rattle.basics.proofs.Scans.{at-step, at-end}
 use Rattle.device.proofs.Pairs.{false-left, false-right}
 use Rattle.model.specs.Columns.{allUpTo}
 use Rattle.replay.specs.Calls.{anyOutside, callsUneven}
-use Rattle.replay.specs.Replay.{Calls, lower, callsTest, entriesTest}
+use Rattle.replay.specs.Replay.{Calls, lengthTest, contentTest}
 use Rattle.replay.specs.Scans.{takes, beginsFrom}
 
 -- ---- bytes outside the pool
@@ -57,62 +61,48 @@ module _ (ks : List ℕ) (begins marks i : ℕ) (e : beginsFrom 0 ks ≡ begins 
       plus-none : begins + 0 ≡ begins
       plus-none = omega arith
 
--- ---- the number of the calls
-
-module _ (c : Calls) (uneven : Bool)
-    (u : uneven ≡ callsUneven (length (c .kinds)) (length (c .ids)) (length (c .offsets)) (length (c .lens)) (length (c .starts))) where
-  pub calls-unequal : uneven ≡ true → 12 ≡ callsTest c
-  unfolding callsTest firstOf refuseIf
-  calls-unequal h = rw (← u, h)
-
-  module _ (even : uneven ≡ false) (known : Bool) (k : known ≡ allUpTo 4 (c .kinds)) where
-    pub calls-unknown : not known ≡ true → 12 ≡ callsTest c
-    unfolding callsTest firstOf refuseIf unless
-    calls-unknown h = rw (← u, even, ← k, not-true known h)
-
-    module _ (all : not known ≡ false) (outside : Bool) (o : outside ≡ anyOutside (length (c .pool)) (c .kinds) (c .lens) (c .starts)) where
-      pub calls-outside : outside ≡ true → 13 ≡ callsTest c
-      unfolding callsTest firstOf refuseIf unless
-      calls-outside h = rw (← u, even, ← k, not-false known all, ← o, h)
-
-      pub calls-pass : outside ≡ false → 0 ≡ callsTest c
-      unfolding callsTest firstOf refuseIf unless
-      calls-pass h = rw (← u, even, ← k, not-false known all, ← o, h)
-
 pub flag-le : (b : Bool) (n : ℕ) → n ≡ flag b → n ≤ 1
 flag-le true n e = omega arith
 flag-le false n e = omega arith
 
--- ---- the lower number, and the number of the ledger's columns
+-- ---- the numbers
 
-module _ (a b : ℕ) where
-  pub lower-right : a ≡ 0 → b ≡ lower a b
-  lower-right h = rw (eq-eqb a 0 h)
+module _ (g : Geometry) (media copy : ℕ) (uneven : Bool) (units sizes : ℕ) (u : units ≡ geometryTest g) where
+  pub length-units : (units ≡ 0 → ⊥) → units ≡ lengthTest g media copy uneven
+  unfolding lengthTest
+  length-units h = u ∙ sym (firstOf-stop (geometryTest g) _ (λ z. h (u ∙ z)))
 
-  module _ (n : a ≡ 0 → ⊥) where
-    pub lower-left : b ≡ 0 → a ≡ lower a b
-    lower-left h = rw (ne-eqb a 0 n, eq-eqb b 0 h)
+  module _ (none : units ≡ 0) (s : sizes ≡ sizeTest g media copy) where
+    pub length-sizes : (sizes ≡ 0 → ⊥) → sizes ≡ lengthTest g media copy uneven
+    unfolding lengthTest
+    length-sizes h = s ∙ sym (firstOf-pass (geometryTest g) _ (sym u ∙ none) ∙ firstOf-stop (sizeTest g media copy) _ (λ z. h (s ∙ z)))
 
-    module _ (m : b ≡ 0 → ⊥) where
-      pub lower-first : a < b → a ≡ lower a b
-      lower-first h = rw (ne-eqb a 0 n, ne-eqb b 0 m) (omega arith)
+    pub length-uneven : sizes ≡ 0 → uneven ≡ true → 12 ≡ lengthTest g media copy uneven
+    unfolding lengthTest refuseIf firstOf
+    length-uneven z e = simp (sym u ∙ none, sym s ∙ z, e)
 
-      pub lower-second : b ≤ a → b ≡ lower a b
-      lower-second h = rw (ne-eqb a 0 n, ne-eqb b 0 m) (omega arith)
+    pub length-even : sizes ≡ 0 → uneven ≡ false → 0 ≡ lengthTest g media copy uneven
+    unfolding lengthTest refuseIf firstOf
+    length-even z e = simp (sym u ∙ none, sym s ∙ z, e)
 
-module _ (entries ids states torn : ℕ) where
-  pub entries-unequal : (not (eqb states ids) || not (eqb torn ids)) ≡ true → 12 ≡ entriesTest entries ids states torn
-  unfolding entriesTest firstOf refuseIf
-  entries-unequal h = rw h
+module _ (c : Calls) (short : Bool) (entries ids : ℕ) (known : Bool) (k : known ≡ allUpTo 4 (c .kinds)) where
+  pub content-unknown : not known ≡ true → 12 ≡ contentTest c short entries ids
+  unfolding contentTest firstOf unless
+  content-unknown h = rw (← k, not-true known h)
 
-  module _ (even : (not (eqb states ids) || not (eqb torn ids)) ≡ false) where
-    pub entries-short : ids < entries → 13 ≡ entriesTest entries ids states torn
-    unfolding entriesTest firstOf refuseIf unless
-    entries-short h = rw (even, lt-leb entries ids h)
+  module _ (all : not known ≡ false) (outside : Bool) (o : outside ≡ anyOutside (length (c .pool)) (c .kinds) (c .lens) (c .starts)) where
+    pub content-short : (short || outside) ≡ true → 13 ≡ contentTest c short entries ids
+    unfolding contentTest firstOf refuseIf unless
+    content-short h = rw (← k, not-false known all, ← o, h)
 
-    pub entries-fit : entries ≤ ids → 0 ≡ entriesTest entries ids states torn
-    unfolding entriesTest firstOf refuseIf unless
-    entries-fit h = rw (even, le-leb entries ids h)
+    module _ (long : (short || outside) ≡ false) (n : ℕ) (m : n ≡ entries) where
+      pub content-over : ids < n → 13 ≡ contentTest c short entries ids
+      unfolding contentTest firstOf refuseIf unless
+      content-over h = rw (← k, not-false known all, ← o, long, lt-leb entries ids (rw m at h))
+
+      pub content-fits : n ≤ ids → 0 ≡ contentTest c short entries ids
+      unfolding contentTest firstOf refuseIf unless
+      content-fits h = rw (← k, not-false known all, ← o, long, le-leb entries ids (rw m at h))
 
 -- columns that are not unequal are of one length
 pub calls-even : (k i o l s : ℕ) → callsUneven k i o l s ≡ false → (i ≡ k) × (o ≡ k) × (l ≡ k) × (s ≡ k)

@@ -5,17 +5,16 @@
 --     left-end        past the last
 -- Assumes nothing.
 use mathlib.Core.Path.{_≡_, refl, sym, ap, _∙_}
-use mathlib.Core.Bool.{Bool, false, _&&_, _||_}
+use mathlib.Core.Bool.{false, _&&_}
 use mathlib.Core.List.{List, [], _∷_, _++_}
 use Prim.Native.Nat.{ℕ, zero, suc, _+_, _≤_, _<_}
 use native.Mathlib.Numerals.{add-one}
 use native.Mathlib.Omega.{arith}
-use lib.ListN.{length, getD, take, drop, set, drop-of-length-le}
+use lib.ListN.{length, getD, take, drop}
 use lib.Seq.{take-length}
 use lib.Dec.{eqb, ltb}
 use Rattle.basics.specs.Parts.{part}
 use Rattle.basics.proofs.Scans.{at-step, at-end}
-use Rattle.basics.proofs.Overwrites.{over-more}
 use Rattle.device.proofs.Pairs.{false-left, false-right}
 use Rattle.session.specs.declared.Told.{Told}
 use Rattle.plain.specs.Plain.{Call}

@@ -3,7 +3,6 @@
 use mathlib.Core.Bool.{Bool, false, not, _&&_, _||_, cond}
 use mathlib.Core.List.{List, [], _∷_}
 use Prim.Native.Nat.{ℕ, _+_}
-use lib.ListN.{length}
 use lib.Dec.{eqb, ltb}
 use Rattle.basics.specs.Parts.{part}
 use Rattle.ledger.specs.Records.{begin, end}

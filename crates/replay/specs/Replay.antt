@@ -1,16 +1,17 @@
 -- Document 01, "Demand 3": what `replay` answers, and what it leaves: the plain run. Definitions only; assumes nothing.
-use mathlib.Core.Bool.{Bool, not, _||_, cond}
+use mathlib.Core.Bool.{Bool, _||_, cond}
 use mathlib.Core.List.{List, [], _∷_, _++_}
-use Prim.Native.Nat.{ℕ, min}
+use Prim.Native.Nat.{ℕ}
 use lib.ListN.{length, drop}
 use lib.Dec.{eqb, leb, ltb}
 use Rattle.basics.specs.Tests.{unless, refuseIf, firstOf}
+use Rattle.storage.specs.declared.Geometry.{Geometry}
 use Rattle.storage.specs.Geometry.{geometryTest}
 use Rattle.device.specs.Media.{newMedia}
 use Rattle.model.specs.Columns.{allUpTo}
 use Rattle.session.specs.declared.Told.{Told}
 use Rattle.session.specs.Log.{Log, Marks}
-use Rattle.session.specs.Tests.{sizeTest, logTest, marksTest}
+use Rattle.session.specs.Tests.{sizeTest, logUnevenOf, marksUnevenOf, logShort, marksShort}
 use Rattle.session.specs.Start.{fresh}
 use Rattle.ledger.specs.declared.Derived.{Derived}
 use Rattle.ledger.specs.declared.Derived.the-variants.{Entries, NotDerived}
@@ -47,44 +48,41 @@ pub record Lent : Type 0 where
 abbrev pub lent : (answers media copy : List ℕ) → Log → Marks → Entered → Lent
 lent a d k l m e = record { answers = a; media = d; copy = k; log = l; marks = m; entries = e }
 
--- ---- the tests
-
--- the lower of two numbers, where 0 is none
-abbrev pub lower : ℕ → ℕ → ℕ
-lower a b = cond (eqb a 0) b (cond (eqb b 0) a (min a b))
-
--- "the lowest number comes first"
-unfoldable pub lowest : List ℕ → ℕ
-lowest [] = 0
-lowest (n ∷ ns) = lower n (lowest ns)
-
--- the calls: 12 for columns unequal or a code without a meaning, 13 for bytes outside the pool
-unfoldable pub callsTest : Calls → ℕ
-callsTest c =
-    firstOf
-    (refuseIf (callsUneven (length (c .kinds)) (length (c .ids)) (length (c .offsets)) (length (c .lens)) (length (c .starts))) 12
-    ∷ unless (allUpTo 4 (c .kinds)) 12
-    ∷ refuseIf (anyOutside (length (c .pool)) (c .kinds) (c .lens) (c .starts)) 13
-    ∷ [])
-
 -- the plain run of the calls, on a new device's media
 abbrev pub runOf : Told → Calls → Lent → Run
 runOf t c x = plain t (newMedia (length (x .media))) (listOf c)
 
--- the ledger's columns: 12 for unequal ones, 13 for columns shorter than the result
-unfoldable pub entriesTest : (entries : ℕ) → (ids states torn : ℕ) → ℕ
-entriesTest entries ids states torn = firstOf (refuseIf (entriesUneven ids states torn) 12 ∷ unless (leb entries ids) 13 ∷ [])
+-- ---- the tests: "the lowest number comes first", 1 to 3, 7, 12, 13
 
-unfoldable pub replayNumber : Told → Calls → Lent → ℕ
+-- "columns of one list unequal": the log's, the marks', the calls', the ledger's
+abbrev pub unevenOf : Calls → Lent → Bool
+unevenOf c x =
+    logUnevenOf (x .log) || marksUnevenOf (x .marks)
+    || callsUneven (length (c .kinds)) (length (c .ids)) (length (c .offsets)) (length (c .lens)) (length (c .starts))
+    || entriesUneven (length (x .entries .ids)) (length (x .entries .states)) (length (x .entries .torn))
+
+-- a session's columns shorter than its limits, and answers shorter than the calls
+abbrev pub shortOf : Calls → Lent → Bool
+shortOf c x = logShort (length (x .log .kinds)) || marksShort (length (x .marks .codes)) || ltb (length (x .answers)) (length (c .kinds))
+
+-- what the columns hold, where they are of one length: 12 for a code without a meaning; 13 for columns too short, for bytes outside the
+-- pool, and for ledger columns, of length `ids`, that are shorter than the result
+unfoldable pub contentTest : Calls → (short : Bool) → (entries ids : ℕ) → ℕ
+contentTest c short entries ids =
+    firstOf
+    (unless (allUpTo 4 (c .kinds)) 12
+    ∷ refuseIf (short || anyOutside (length (c .pool)) (c .kinds) (c .lens) (c .starts)) 13
+    ∷ unless (leb entries ids) 13
+    ∷ [])
+
+unfoldable pub lengthTest : Geometry → (media copy : ℕ) → (uneven : Bool) → ℕ
+lengthTest g media copy uneven = firstOf (geometryTest g ∷ sizeTest g media copy ∷ refuseIf uneven 12 ∷ [])
+
+abbrev pub replayNumber : Told → Calls → Lent → ℕ
 replayNumber t c x =
-    lowest
-    (geometryTest (t .geometry)
-    ∷ sizeTest (t .geometry) (length (x .media)) (length (x .copy))
-    ∷ logTest (x .log)
-    ∷ marksTest (x .marks)
-    ∷ callsTest c
-    ∷ unless (leb (length (c .kinds)) (length (x .answers))) 13
-    ∷ entriesTest (length (ledger (runOf t c x))) (length (x .entries .ids)) (length (x .entries .states)) (length (x .entries .torn))
+    firstOf
+    (lengthTest (t .geometry) (length (x .media)) (length (x .copy)) (unevenOf c x)
+    ∷ contentTest c (shortOf c x) (length (ledger (runOf t c x))) (length (x .entries .ids))
     ∷ [])
 
 -- ---- what it leaves
