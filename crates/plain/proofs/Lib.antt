@@ -11,3 +11,5 @@ pub mod Capped
 pub mod Keep
 pub mod Later
 pub mod Theorems
+pub mod Sanity
+pub mod Examples
