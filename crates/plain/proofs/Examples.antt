@@ -80,6 +80,10 @@ pub record Accepted : Type 0 where
 
 -- ---- edges
 
+-- the byte that does not land would have changed nothing
+abbrev sameByte : List Call
+sameByte = mark (begin 7) ∷ act (program 0 (0x00 ∷ 0xff ∷ [])) ∷ []
+
 -- an erase in the next record takes back what the first one wrote
 abbrev takenBack : List Call
 takenBack = mark (begin 7) ∷ act (program 0 (0x00 ∷ [])) ∷ mark (begin 8) ∷ act (erase 0 4) ∷ act barrier ∷ []
@@ -91,6 +95,8 @@ unordered = mark (begin 7) ∷ act (program 0 (0x00 ∷ [])) ∷ act barrier ∷
 pub record Edges : Type 0 where
   -- "A begin or end not refused is taken and answers 0, stopped or not."
   pub begun-after-a-stop : ledger (runOf (at 0 None PowerLoss) takenBack) ≡ entry 7 Attempted false ∷ entry 8 Attempted false ∷ []
+  -- a byte that did not land is not withheld where the media hold what it would have left
+  pub missing-and-held : ledger (runOf (at 0 (Bytes 1) PowerLoss) sameByte) ≡ entry 7 PossiblyDurable false ∷ []
   -- what landed is not withheld, whatever a later write leaves there
   pub landed-and-taken-back : ledger (runOf Nothing takenBack) ≡ entry 7 Acknowledged false ∷ entry 8 Acknowledged false ∷ []
   -- without its order theorem 4 fails: the run cut at the barrier acknowledges what the uncut run does not
@@ -124,6 +130,7 @@ examples = record {
   };
   edges = record {
     begun-after-a-stop = refl;
+    missing-and-held = refl;
     landed-and-taken-back = refl;
     unordered-cut = refl;
     unordered-uncut = refl;
