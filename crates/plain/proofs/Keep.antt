@@ -10,7 +10,7 @@ use lib.ListN.{length, take, drop}
 use lib.Seq.{take-nil, drop-nil}
 use lib.Dec.{eqb}
 use borrow.Author.Tests.{not-true}
-use Rattle.device.specs.Media.{anyPair, unequal}
+use Rattle.device.specs.Media.{anyPair}
 use Rattle.device.proofs.Pairs.{false-left, false-right}
 use Rattle.model.specs.Ledger.{isAcknowledged}
 use Rattle.ledger.specs.Records.{Kept, any, behind, judged, entryBy}
@@ -118,7 +118,7 @@ module _ (x b : Op) (rest : List Op) (kinds : x .kind ≡ b .kind) (whole : Whol
 
 bare-withholds : (media : List ℕ) (o : Op) → Bare o → isWrite o ≡ false → withheld media o ≡ false
 unfolding withheld
-bare-withholds media o h n = rw (h .no-want n, drop-nil) (no-pair unequal _)
+bare-withholds media o h n = rw (h .no-want n, drop-nil) (no-pair _ _)
 
 bare-changes : (o : Op) → Bare o → isWrite o ≡ false → changed o ≡ false
 unfolding changed anyPair

@@ -1,4 +1,5 @@
--- The theorems about the plain run, lowest first.
+-- The theorems about the plain run, lowest first, behind the examples.
+pub mod Examples
 pub mod Flags
 pub mod Runs
 pub mod Truncation
@@ -11,3 +12,4 @@ pub mod Capped
 pub mod Keep
 pub mod Later
 pub mod Theorems
+pub mod Sanity

@@ -10,7 +10,7 @@ use native.Mathlib.Omega.{arith}
 use lib.ListN.{length, take, drop, drop-of-length-le}
 use lib.Seq.{take-nil, take-take, take-at, length-take-le, drop-length}
 use Rattle.basics.proofs.Tests.{le-or-gt}
-use Rattle.device.specs.Media.{anyPair, unequal}
+use Rattle.device.specs.Media.{anyPair}
 use Rattle.inject.specs.declared.Injection.{Injection}
 use Rattle.session.specs.declared.Told.{Told}
 use Rattle.session.specs.declared.Armed.{Armed}
@@ -32,7 +32,7 @@ no-pair f (x ∷ xs) = refl
 
 whole-landed : (media : List ℕ) (o : Op) → Whole o → withheld media o ≡ false
 unfolding withheld
-whole-landed media o w = rw (w .all-landed, drop-length (o .want)) (no-pair unequal _)
+whole-landed media o w = rw (w .all-landed, drop-length (o .want)) (no-pair _ _)
 
 pub none-withheld : (media : List ℕ) (os : List Op) → All Whole os → any (withheld media) os ≡ false
 unfolding any
