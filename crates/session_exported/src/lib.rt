@@ -92,8 +92,8 @@ pub extern "C" fn session_program(
         changed,
         answered,
     );
-    let next = programmed.counters;
-    session_numbers::keep(state, next);
+    let after_program = programmed.counters;
+    session_numbers::keep(state, after_program);
     programmed.answer
 }
 
@@ -131,8 +131,8 @@ pub extern "C" fn session_erase(
         changed,
         answered,
     );
-    let next = erased.counters;
-    session_numbers::keep(state, next);
+    let after_erase = erased.counters;
+    session_numbers::keep(state, after_erase);
     erased.answer
 }
 
@@ -162,8 +162,8 @@ pub extern "C" fn session_barrier(
         changed,
         answered,
     );
-    let next = ordered.counters;
-    session_numbers::keep(state, next);
+    let after_barrier = ordered.counters;
+    session_numbers::keep(state, after_barrier);
     ordered.answer
 }
 

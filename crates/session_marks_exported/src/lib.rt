@@ -18,8 +18,8 @@ pub extern "C" fn session_begin(
 {
     let counters = session_numbers::counters_of(state);
     let opened = session_marks::begin_record(counters, id, codes, ids, places);
-    let next = opened.counters;
-    session_numbers::keep(state, next);
+    let after_begin = opened.counters;
+    session_numbers::keep(state, after_begin);
     opened.answer
 }
 
@@ -35,8 +35,8 @@ pub extern "C" fn session_end(
 {
     let counters = session_numbers::counters_of(state);
     let closed = session_marks::end_record(counters, codes, ids, places);
-    let next = closed.counters;
-    session_numbers::keep(state, next);
+    let after_end = closed.counters;
+    session_numbers::keep(state, after_end);
     closed.answer
 }
 
@@ -55,7 +55,7 @@ pub extern "C" fn session_mark_operations(
 {
     let counters = session_numbers::counters_of(state);
     let marked = session_marks::mark_operations(counters, id, from, to, codes, ids, places);
-    let next = marked.counters;
-    session_numbers::keep(state, next);
+    let after_marking = marked.counters;
+    session_numbers::keep(state, after_marking);
     marked.answer
 }
