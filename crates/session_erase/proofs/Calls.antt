@@ -23,7 +23,7 @@ use Rattle.session.specs.Tests.{sizeTest, logTest, operationTest}
 use Rattle.session.specs.Armed.{armedOn, eraseLands}
 use Rattle.session.specs.Written.{Landing, written}
 use Rattle.session.proofs.Writing.{call-refused, call-taken, landed-so}
-use Rattle.session_erase.specs.Erase.{eraseNumber, erasePlan, eraseLanding, eraseEntry, eraseTaken, eraseCall}
+use Rattle.session_erase.specs.Erase.{eraseNumber, erasePlan, eraseLanding, eraseEntry, eraseCall}
 
 -- the tests, two at a time
 pub erase-tests : (t : Told) (c : Counters) (offset len media copy log sizes span full stop last mid next r : ℕ)

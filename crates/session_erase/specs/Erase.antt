@@ -1,5 +1,5 @@
 -- Document 01, "session.rs (974)": what an erase answers, and what it leaves. Definitions only; assumes nothing.
-use mathlib.Core.Bool.{Bool, cond}
+use mathlib.Core.Bool.{Bool}
 use mathlib.Core.List.{List, [], _∷_}
 use Prim.Native.Nat.{ℕ, _+_, _-_}
 use lib.ListN.{length}

@@ -14,7 +14,7 @@ use Rattle.session.specs.Log.{Log, logged}
 use Rattle.session.specs.Tests.{logTest}
 use Rattle.session.specs.Written.{Landing, written}
 use Rattle.session.proofs.Writing.{call-refused, call-taken, landed-so}
-use Rattle.session_program.specs.Program.{programNumber, programPlan, programLanding, programEntry, programTaken, programCall}
+use Rattle.session_program.specs.Program.{programNumber, programPlan, programLanding, programEntry, programCall}
 
 module _ (t : Told) (c : Counters) (offset : ℕ) (bytes media copy : List ℕ) (l : Log) (log n : ℕ)
     (p : log ≡ logTest l) (e : n ≡ programNumber t c offset bytes media (length copy) log) where

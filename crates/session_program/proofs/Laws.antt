@@ -5,13 +5,12 @@
 --     unarmed-program                 with nothing armed it lands whole, answers 0, and the session runs on
 --     program-outside                 the media outside its span are untouched, refused or taken, cut or not
 -- Assumes nothing.
-use mathlib.Core.Path.{_≡_, refl, sym, ap, _∙_}
+use mathlib.Core.Path.{_≡_, refl}
 use mathlib.Core.Logic.{_⊎_, inl, inr}
 use mathlib.Core.List.{List, [], _∷_}
-use Prim.Native.Nat.{ℕ, zero, suc, _+_, _≤_}
+use Prim.Native.Nat.{ℕ, _+_, _≤_}
 use native.Mathlib.Omega.{arith}
 use lib.ListN.{length, take, length-take}
-use lib.Dec.{eqb}
 use Rattle.basics.specs.Parts.{part}
 use Rattle.basics.proofs.Tests.{firstOf-zero}
 use Rattle.device.proofs.Programming.{programmed-outside}

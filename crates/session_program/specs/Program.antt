@@ -1,7 +1,7 @@
 -- Document 01, "session.rs (974)": what a program answers, and what it leaves. Definitions only; assumes nothing.
-use mathlib.Core.Bool.{Bool, _&&_, cond}
+use mathlib.Core.Bool.{Bool, _&&_}
 use mathlib.Core.List.{List, [], _∷_}
-use Prim.Native.Nat.{ℕ, _+_, _-_, _^_}
+use Prim.Native.Nat.{ℕ, _+_, _^_}
 use lib.ListN.{length, take, drop}
 use lib.Dec.{eqb, ltb}
 use Rattle.basics.specs.Tests.{flag, unless, refuseIf, firstOf}
