@@ -464,37 +464,30 @@ fn script_of(size: usize, mut line: impl FnMut() -> String) -> Vec<u8> {
     }
 }
 
-/// Both sides read into what they were given before, so that no list is made while time is taken.
+/// Four megabytes of scripts of a size, no two of them alike where lines are random, so that nothing is learned by heart. Both
+/// sides read into what they were given before: no list is made while time is taken.
 fn bench(random: &mut Random) {
     let program = format!("P\t128\t{}\n", "0123456789abcdef".repeat(16));
-    for size in [8 << 10, 32 << 10, MOST_TEXT] {
-        let mut turn = 0;
-        let mut short = || {
-            turn += 1;
-            ["S\n", "N\n"][turn % 2].to_string()
-        };
-        let scripts = [
-            ("lines of every kind", script_of(size, || random_line(random))),
-            ("P lines", script_of(size, || program.clone())),
-            ("N and S lines", script_of(size, &mut short)),
-        ];
-        for (what, text) in scripts {
-            let rows = (RefCell::new(Rows::default()), RefCell::new(unwritten([MOST_TEXT / 2; 6])));
-            let times = (1 << 22) / size;
-            let rust = || {
+    let rows = (RefCell::new(Rows::default()), RefCell::new(unwritten([MOST_TEXT / 2; 6])));
+    for (what, kind) in [("lines of every kind", 0), ("P lines of 128 bytes", 1), ("N and S lines", 2)] {
+        for size in [8 << 10, 32 << 10, MOST_TEXT] {
+            let line = |random: &mut Random| match kind {
+                0 => random_line(random),
+                1 => program.clone(),
+                _ => random.pick(&["N\n", "S\n"]).to_string(),
+            };
+            let texts: Vec<_> = (0..(1 << 22) / size).map(|_| script_of(size, || line(random))).collect();
+            let rust = |text: &Vec<u8>| {
                 let rows = &mut *rows.0.borrow_mut();
-                let answer = read(black_box(&text), rows);
-                told(answer, rows).iter().map(|&cell| u64::from(cell)).sum::<u64>()
+                let answer = read(black_box(text), rows);
+                told(answer, rows)
             };
-            let ours = || {
-                let rows = &mut *rows.1.borrow_mut();
-                our_read(black_box(&text), rows).iter().map(|&cell| u64::from(cell)).sum::<u64>()
-            };
+            let ours = |text: &Vec<u8>| our_read(black_box(text), &mut rows.1.borrow_mut());
             bench_row(
                 &format!("script: {what}, {} KiB, a byte", size >> 10),
-                times * text.len(),
-                || (0..times).map(|_| rust()).sum(),
-                || (0..times).map(|_| ours()).sum(),
+                texts.iter().map(Vec::len).sum(),
+                || texts.iter().flat_map(rust).map(u64::from).sum(),
+                || texts.iter().flat_map(ours).map(u64::from).sum(),
             );
         }
     }
