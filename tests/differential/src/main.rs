@@ -12,7 +12,8 @@ use std::process::ExitCode;
 use std::time::Instant;
 
 /// The layers, lowest first.
-const LAYERS: &[Layer] = &[storage::LAYER, device::LAYER, inject::LAYER, oracle::LAYER, session::LAYER];
+const LAYERS: &[Layer] =
+    &[storage::LAYER, device::LAYER, inject::LAYER, oracle::LAYER, session::LAYER, session::ledger::LAYER];
 
 /// Random inputs to each layer, where the caller does not say how many.
 const SIZE: u64 = 1_000_000;

@@ -11,6 +11,9 @@ use waymaker_fault::inject::{Injection, Interruption, Op, Progress, injections};
 use waymaker_fault::session::{Harness, HarnessError, Session};
 use waymaker_flash::storage::{Geometry, GeometryError, StableStorage};
 
+#[path = "ledger.rs"]
+pub mod ledger;
+
 pub const LAYER: Layer = Layer { name: "session", compare, bench, sample };
 
 // crates/session_exported/src/lib.rt. Nothing proves that these declarations are those of that file: this is what is
@@ -101,7 +104,8 @@ impl Input for Case {
 fn smaller_calls(call: &Call) -> Vec<Call> {
     match call {
         Call::Program(offset, bytes) => {
-            let mut found: Vec<Call> = smaller_numbers(*offset).into_iter().map(|o| Call::Program(o, bytes.clone())).collect();
+            let mut found: Vec<Call> =
+                smaller_numbers(*offset).into_iter().map(|o| Call::Program(o, bytes.clone())).collect();
             for len in smaller_numbers(bytes.len() as u32) {
                 found.push(Call::Program(*offset, bytes[..len as usize].to_vec()));
             }
@@ -362,7 +366,10 @@ impl Ours {
             Some(Injection { op, progress, interruption }) => {
                 let none = matches!(progress, Progress::None | Progress::Bytes(0));
                 (interruption == Interruption::Watchdog && none && op == operations)
-                    || (interruption == Interruption::PowerLoss && progress == Progress::None && op == 0 && operations == 0)
+                    || (interruption == Interruption::PowerLoss
+                        && progress == Progress::None
+                        && op == 0
+                        && operations == 0)
             }
         }
     }
@@ -544,9 +551,8 @@ fn bench(_: &mut Random) {
         "session: program of 4,096 bytes, 512 a session",
         512,
         || {
-            let run = harness.run_fault_free(|session| {
-                (0..512).try_for_each(|place| session.program(place * 4096, &bytes))
-            });
+            let run =
+                harness.run_fault_free(|session| (0..512).try_for_each(|place| session.program(place * 4096, &bytes)));
             let run = run.expect("no fault");
             run.ops().len() as u64 + u64::from(run.image()[4097])
         },
