@@ -2,7 +2,7 @@
 
 use crate::device::Device;
 use crate::inject::Injection;
-use crate::session::Session;
+use crate::session::{Run, Session};
 
 pub fn apply_program(device: &mut Device, offset: u32, src: &[u8]) -> bool {
     device.apply_program(offset, src)
@@ -30,4 +30,8 @@ pub fn erase_would_change(device: &Device, offset: u32, len: u32) -> bool {
 
 pub fn new(device: Device, injection: Option<Injection>) -> Session {
     Session::new(device, injection)
+}
+
+pub fn finish(session: Session) -> Run {
+    session.finish()
 }

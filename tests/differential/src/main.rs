@@ -14,7 +14,15 @@ use std::process::ExitCode;
 use std::time::Instant;
 
 /// The layers, lowest first.
-const LAYERS: &[Layer] = &[storage::LAYER, device::LAYER, inject::LAYER, oracle::LAYER, script::LAYER, session::LAYER];
+const LAYERS: &[Layer] = &[
+    storage::LAYER,
+    device::LAYER,
+    inject::LAYER,
+    oracle::LAYER,
+    script::LAYER,
+    session::LAYER,
+    session::ledger::LAYER,
+];
 
 /// Random inputs to each layer, where the caller does not say how many.
 const SIZE: u64 = 1_000_000;

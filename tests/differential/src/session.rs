@@ -15,6 +15,9 @@ use waymaker_fault::model::RecordId;
 use waymaker_fault::session::{Harness, HarnessError, Session};
 use waymaker_flash::storage::{Geometry, GeometryError, StableStorage};
 
+#[path = "ledger.rs"]
+pub mod ledger;
+
 pub const LAYER: Layer = Layer { name: "session", compare, bench, sample };
 
 // crates/session_exported/src/lib.rt. Nothing proves that these declarations are those of that file: this is what is
@@ -109,7 +112,8 @@ impl Input for Case {
 fn smaller_calls(call: &Call) -> Vec<Call> {
     match call {
         Call::Program(offset, bytes) => {
-            let mut found: Vec<Call> = smaller_numbers(*offset).into_iter().map(|o| Call::Program(o, bytes.clone())).collect();
+            let mut found: Vec<Call> =
+                smaller_numbers(*offset).into_iter().map(|o| Call::Program(o, bytes.clone())).collect();
             for len in smaller_numbers(bytes.len() as u32) {
                 found.push(Call::Program(*offset, bytes[..len as usize].to_vec()));
             }
@@ -389,7 +393,10 @@ impl Ours {
             Some(Injection { op, progress, interruption }) => {
                 let none = matches!(progress, Progress::None | Progress::Bytes(0));
                 (interruption == Interruption::Watchdog && none && op == operations)
-                    || (interruption == Interruption::PowerLoss && progress == Progress::None && op == 0 && operations == 0)
+                    || (interruption == Interruption::PowerLoss
+                        && progress == Progress::None
+                        && op == 0
+                        && operations == 0)
             }
         }
     }
