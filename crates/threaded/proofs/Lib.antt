@@ -6,3 +6,4 @@ pub mod Alike
 pub mod Calls
 pub mod Seen
 pub mod Same
+pub mod Demand
