@@ -104,8 +104,7 @@ impl Input for Case {
 fn smaller_calls(call: &Call) -> Vec<Call> {
     match call {
         Call::Program(offset, bytes) => {
-            let mut found: Vec<Call> =
-                smaller_numbers(*offset).into_iter().map(|o| Call::Program(o, bytes.clone())).collect();
+            let mut found: Vec<Call> = smaller_numbers(*offset).into_iter().map(|o| Call::Program(o, bytes.clone())).collect();
             for len in smaller_numbers(bytes.len() as u32) {
                 found.push(Call::Program(*offset, bytes[..len as usize].to_vec()));
             }
@@ -366,10 +365,7 @@ impl Ours {
             Some(Injection { op, progress, interruption }) => {
                 let none = matches!(progress, Progress::None | Progress::Bytes(0));
                 (interruption == Interruption::Watchdog && none && op == operations)
-                    || (interruption == Interruption::PowerLoss
-                        && progress == Progress::None
-                        && op == 0
-                        && operations == 0)
+                    || (interruption == Interruption::PowerLoss && progress == Progress::None && op == 0 && operations == 0)
             }
         }
     }
@@ -551,8 +547,9 @@ fn bench(_: &mut Random) {
         "session: program of 4,096 bytes, 512 a session",
         512,
         || {
-            let run =
-                harness.run_fault_free(|session| (0..512).try_for_each(|place| session.program(place * 4096, &bytes)));
+            let run = harness.run_fault_free(|session| {
+                (0..512).try_for_each(|place| session.program(place * 4096, &bytes))
+            });
             let run = run.expect("no fault");
             run.ops().len() as u64 + u64::from(run.image()[4097])
         },
