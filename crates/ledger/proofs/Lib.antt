@@ -9,3 +9,4 @@ pub mod Numbers
 pub mod Storing
 pub mod Whole
 pub mod Readback
+pub mod Sanity

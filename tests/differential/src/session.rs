@@ -112,8 +112,7 @@ impl Input for Case {
 fn smaller_calls(call: &Call) -> Vec<Call> {
     match call {
         Call::Program(offset, bytes) => {
-            let mut found: Vec<Call> =
-                smaller_numbers(*offset).into_iter().map(|o| Call::Program(o, bytes.clone())).collect();
+            let mut found: Vec<Call> = smaller_numbers(*offset).into_iter().map(|o| Call::Program(o, bytes.clone())).collect();
             for len in smaller_numbers(bytes.len() as u32) {
                 found.push(Call::Program(*offset, bytes[..len as usize].to_vec()));
             }
@@ -393,10 +392,7 @@ impl Ours {
             Some(Injection { op, progress, interruption }) => {
                 let none = matches!(progress, Progress::None | Progress::Bytes(0));
                 (interruption == Interruption::Watchdog && none && op == operations)
-                    || (interruption == Interruption::PowerLoss
-                        && progress == Progress::None
-                        && op == 0
-                        && operations == 0)
+                    || (interruption == Interruption::PowerLoss && progress == Progress::None && op == 0 && operations == 0)
             }
         }
     }
