@@ -22,6 +22,7 @@ const LAYERS: &[Layer] = &[
     script::LAYER,
     session::LAYER,
     session::ledger::LAYER,
+    session::replay::LAYER,
 ];
 
 /// Random inputs to each layer, where the caller does not say how many.

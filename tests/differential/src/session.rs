@@ -17,6 +17,8 @@ use waymaker_flash::storage::{Geometry, GeometryError, StableStorage};
 
 #[path = "ledger.rs"]
 pub mod ledger;
+#[path = "replay.rs"]
+pub mod replay;
 
 pub const LAYER: Layer = Layer { name: "session", compare, bench, sample };
 
