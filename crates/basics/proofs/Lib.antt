@@ -4,3 +4,5 @@ pub mod Scans
 pub mod Overwrites
 pub mod Columns
 pub mod Parts
+pub mod Spans
+pub mod Lists

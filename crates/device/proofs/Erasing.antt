@@ -24,10 +24,10 @@ use borrow.Author.Tests.{le-leb, lt-leb}
 use Rattle.basics.specs.Parts.{part, overlaid}
 use Rattle.basics.proofs.Tests.{le-or-gt}
 use Rattle.basics.proofs.Parts.{on-in, on-out, length-on, before-part, after-part, at-part, on-twice}
+use Rattle.basics.proofs.Spans.{on-split, part-part}
 use Rattle.device.specs.Media.{ff, newMedia, anded, programmed, erased, anyChanged, eraseWouldChange}
 use Rattle.device.proofs.Pairs.{any-same}
 use Rattle.device.proofs.Cells.{anded-erased}
-use Rattle.device.proofs.Spans.{on-split, part-part}
 use Rattle.device.proofs.Applied.{any-overlaid, unchanged}
 use Rattle.device.proofs.Programming.{programmed-part}
 

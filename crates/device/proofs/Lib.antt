@@ -2,14 +2,10 @@
 pub mod Ands
 pub mod Pairs
 pub mod Cells
-pub mod Spans
 pub mod Applied
 pub mod Programming
 pub mod Erasing
 pub mod Bits
 pub mod Questions
 pub mod Postimages
-pub mod Numbers
-pub mod Accepted
-pub mod Replies
 pub mod Examples

@@ -14,7 +14,7 @@ use Rattle.basics.specs.Parts.{part, overlaid}
 use Rattle.basics.proofs.Parts.{length-part, part-lent}
 use Rattle.device.specs.declared.Postimage.the-variants.{Cells, BufferTooShort}
 use Rattle.device.specs.Media.{anded, postimage}
-use Rattle.device.specs.Calls.{Copied, copied}
+use Rattle.device.specs.Answers.{Copied, copied}
 use Rattle.device.proofs.Cells.{length-anded}
 
 module _ (media : List ℕ) (offset : ℕ) (src buffer : List ℕ) where

@@ -21,9 +21,9 @@ use borrow.Author.Tests.{le-leb, lt-leb}
 use Rattle.basics.specs.Parts.{part, overlaid, onPart}
 use Rattle.basics.proofs.Tests.{le-or-gt}
 use Rattle.basics.proofs.Parts.{length-part, in-three, on-in, on-out, length-on, before-part, after-part, at-part, on-twice}
+use Rattle.basics.proofs.Spans.{on-split}
 use Rattle.device.specs.Media.{anded, programmed, anyChanged, postimage}
 use Rattle.device.proofs.Cells.{length-anded, anded-again, anded-within, anded-same, anded-append}
-use Rattle.device.proofs.Spans.{on-split}
 use Rattle.device.proofs.Applied.{unchanged}
 
 pub keeps : (src cells : List ℕ) → length cells ≡ length src → length (anded cells src) ≡ length src

@@ -1,50 +1,33 @@
--- What the functions answer: the paper's number of each case, and the answer with a number.
--- Definitions only; assumes nothing.
+-- The bit rule, and what `postimage_of` answers. Definitions only; assumes nothing.
 use mathlib.Core.Bool.{Bool, true, false, cond}
+use mathlib.Core.List.{List}
 use Prim.Native.Nat.{ℕ}
-use lib.Dec.{eqb}
-use Rattle.storage.specs.Answers.{numberOf, errorOf}
+use lib.ListN.{length}
+use lib.Dec.{leb}
+use Rattle.basics.specs.Parts.{overlaid}
 use Rattle.device.specs.declared.OneWayBits.{OneWayBits}
 use Rattle.device.specs.declared.OneWayBits.the-variants.{Absorbed, Rejected}
-use Rattle.device.specs.declared.FaultError.{FaultError}
-use Rattle.device.specs.declared.FaultError.the-variants.{Geometry, MediaLength, BitSetWithoutErase, PowerLoss, WatchdogReset, InjectedFailure}
-use Rattle.device.specs.declared.Reply.{Reply}
-use Rattle.device.specs.declared.Reply.the-variants.{Accepted, Refused}
 use Rattle.device.specs.declared.Postimage.{Postimage}
 use Rattle.device.specs.declared.Postimage.the-variants.{Cells, BufferTooShort}
-
--- "Where an answer is an enum, a definition gives this paper's number .. for each of its cases."
-abbrev pub numberOfFault : FaultError → ℕ
-numberOfFault (Geometry error) = numberOf error
-numberOfFault MediaLength = 7
-numberOfFault BitSetWithoutErase = 20
-numberOfFault PowerLoss = 21
-numberOfFault WatchdogReset = 22
-numberOfFault InjectedFailure = 23
-
-abbrev pub numberOfReply : Reply → ℕ
-numberOfReply Accepted = 0
-numberOfReply (Refused fault) = numberOfFault fault
-
-abbrev pub numberOfPostimage : Postimage → ℕ
-numberOfPostimage (Cells n) = 0
-numberOfPostimage BufferTooShort = 13
-
--- the fault with a number; `fault-numbered` in proofs/Numbers.antt: its number is n, for each n that is the number of one
-abbrev pub faultOf : ℕ → FaultError
-faultOf n =
-    cond (eqb n 7) MediaLength
-    (cond (eqb n 20) BitSetWithoutErase
-    (cond (eqb n 21) PowerLoss
-    (cond (eqb n 22) WatchdogReset
-    (cond (eqb n 23) InjectedFailure
-    (Geometry (errorOf n))))))
-
--- the reply of a call whose number is n
-abbrev pub replied : ℕ → Reply
-replied n = cond (eqb n 0) Accepted (Refused (faultOf n))
 
 -- "Under rule `Rejected`, a byte with a 1 where its cell has 0 refuses the call ..; under `Absorbed` the AND happens."
 abbrev pub rejects : OneWayBits → Bool
 rejects Absorbed = false
 rejects Rejected = true
+
+-- ---- what programming would leave, written to a lent buffer
+
+pub record Copied : Type 0 where
+  pub answer : Postimage
+  pub buffer : List ℕ
+
+-- the cells at the buffer's start and how many they are; "13: lent columns shorter than the result", and the buffer as it was
+abbrev pub copied : (buffer cells : List ℕ) → Copied
+copied buffer cells =
+    cond (leb (length cells) (length buffer)) (record { answer = Cells (length cells); buffer = overlaid buffer 0 cells })
+    (record { answer = BufferTooShort; buffer = buffer })
+
+-- "Where an answer is an enum, a definition gives this paper's number .. for each of its cases."
+abbrev pub numberOfPostimage : Postimage → ℕ
+numberOfPostimage (Cells n) = 0
+numberOfPostimage BufferTooShort = 13

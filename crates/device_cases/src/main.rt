@@ -100,14 +100,14 @@ fn program_case(geometry: Geometry, rule: u32, media: &mut [u8], place: usize)
     let mut src = [0u8; 8];
     of_table(&mut src, place);
     print_call(0, rule, geometry, media.len(), offset, len);
-    let reply = device::program(geometry, rule_of(rule), media, offset, &src[..len]);
+    let reply = device_calls::program(geometry, rule_of(rule), media, offset, &src[..len]);
     print_u32(reply.refusal());
     print_bytes(media);
 }
 
 fn read_into(geometry: Geometry, rule: u32, media: &[u8], offset: u32, dst: &mut [u8]) {
     print_call(1, rule, geometry, media.len(), offset, dst.len());
-    let reply = device::read(geometry, media, offset, dst);
+    let reply = device_calls::read(geometry, media, offset, dst);
     print_u32(reply.refusal());
     print_bytes(dst);
 }
@@ -128,7 +128,7 @@ fn erase_case(geometry: Geometry, rule: u32, media: &mut [u8], place: usize)
     let offset = OFFSETS[place / 9];
     let len = place % 9;
     print_call(2, rule, geometry, media.len(), offset, len);
-    let reply = device::erase(geometry, media, offset, len as u32);
+    let reply = device_calls::erase(geometry, media, offset, len as u32);
     print_u32(reply.refusal());
     print_bytes(media);
 }
@@ -142,7 +142,7 @@ fn calls(geometry: Geometry, rule: u32, media: &mut [u8]) {
         erase_case(geometry, rule, media, place);
     }
     print_call(3, rule, geometry, media.len(), 0, 0);
-    let reply = device::barrier(geometry, media);
+    let reply = device_calls::barrier(geometry, media);
     print_u32(reply.refusal());
     print_bytes(media);
 }
@@ -169,8 +169,8 @@ fn devices(rule: u32) {
 
 // What is asked of the media.
 fn print_questions(media: &[u8], offset: u32, src: &[u8], len: u32) {
-    print_flag(device::would_set_a_bit(media, offset, src));
-    print_flag(device::differs_from(media, offset, src));
+    print_flag(device_questions::would_set_a_bit(media, offset, src));
+    print_flag(device_questions::differs_from(media, offset, src));
     print_flag(device::erase_would_change(media, offset, len));
 }
 

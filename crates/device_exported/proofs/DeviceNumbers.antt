@@ -15,12 +15,13 @@ use Rattle.storage.specs.declared.Geometry.{Geometry}
 use Rattle.device.specs.declared.OneWayBits.{OneWayBits}
 use Rattle.device.specs.declared.Postimage.{Postimage}
 use Rattle.device.specs.declared.Postimage.the-variants.{Cells, BufferTooShort}
-use Rattle.device.specs.declared.Reply.{Reply}
+use Rattle.device_calls.specs.declared.Reply.{Reply}
 use Rattle.device.specs.Media.{Applied, applied, anyChanged}
-use Rattle.device.specs.Answers.{numberOfPostimage, numberOfReply, replied}
-use Rattle.device.specs.Calls.{Called, Copied, copied, readRefusal, programRefusal, eraseRefusal, barrierRefusal, readCall, programCall, eraseCall}
-use Rattle.device.proofs.Numbers.{small-geometry, reply-numbered}
-use Rattle.device.proofs.Replies.{read-number, program-number, erase-number}
+use Rattle.device.specs.Answers.{numberOfPostimage, Copied, copied}
+use Rattle.device_calls.specs.Answers.{numberOfReply, replied}
+use Rattle.device_calls.specs.Calls.{Called, readRefusal, programRefusal, eraseRefusal, barrierRefusal, readCall, programCall, eraseCall}
+use Rattle.device_calls.proofs.Numbers.{small-geometry, reply-numbered}
+use Rattle.device_calls.proofs.Replies.{read-number, program-number, erase-number}
 use Rattle.device_exported.specs.Device.{countOver}
 
 -- ---- a yes or no

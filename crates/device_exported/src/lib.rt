@@ -8,8 +8,8 @@ ghost use lib.ListN.{length};
 ghost use Rattle.basics.specs.Tests.{flag};
 ghost use Rattle.storage.specs.Geometry.{geometryOf};
 ghost use Rattle.device.specs.Media.{newMedia, anyChanged, programmed, erased, wouldSetABit, postimage, differsFrom, eraseWouldChange};
-ghost use Rattle.device.specs.Calls.{copied, readRefusal, programRefusal, eraseRefusal, barrierRefusal, readCall, programCall, eraseCall};
-ghost use Rattle.device.specs.Answers.{numberOfPostimage};
+ghost use Rattle.device.specs.Answers.{numberOfPostimage, copied};
+ghost use Rattle.device_calls.specs.Calls.{readRefusal, programRefusal, eraseRefusal, barrierRefusal, readCall, programCall, eraseCall};
 ghost use Rattle.device_exported.specs.Device.{ruleOf, countOver};
 use device::OneWayBits;
 use device::Postimage;
@@ -78,7 +78,7 @@ pub extern "C" fn device_apply_erase(media: &mut [u8], offset: u32, len: u32) ->
 pub extern "C" fn device_would_set_a_bit(media: &[u8], offset: u32, src: &[u8]) -> u32
     ensures { λ r. ⌜ r ≡ flag (wouldSetABit (now (media .entry)) offset (now (src .entry))) ⌝ }
 {
-    let sets = device::would_set_a_bit(media, offset, src);
+    let sets = device_questions::would_set_a_bit(media, offset, src);
     flag_of(sets)
 }
 
@@ -108,7 +108,7 @@ pub extern "C" fn device_postimage_of(
 pub extern "C" fn device_differs_from(media: &[u8], offset: u32, expected: &[u8]) -> u32
     ensures { λ r. ⌜ r ≡ flag (differsFrom (now (media .entry)) offset (now (expected .entry))) ⌝ }
 {
-    let differs = device::differs_from(media, offset, expected);
+    let differs = device_questions::differs_from(media, offset, expected);
     flag_of(differs)
 }
 
@@ -135,7 +135,7 @@ pub extern "C" fn device_read(
     ensures { λ r. ⌜ (r ≡ readRefusal (geometryOf capacity erase program read) (length (now (media .entry))) offset (length (now (dst .entry)))) × (now (dst .exit) ≡ readCall (geometryOf capacity erase program read) (now (media .entry)) offset (now (dst .entry)) .content) ⌝ }
 {
     let geometry = units(capacity, erase, program, read);
-    let reply = device::read(geometry, media, offset, dst);
+    let reply = device_calls::read(geometry, media, offset, dst);
     reply.refusal()
 }
 
@@ -155,7 +155,7 @@ pub extern "C" fn device_program(
 {
     let geometry = units(capacity, erase, program, read);
     let bits = rule_of(rule);
-    let reply = device::program(geometry, bits, media, offset, src);
+    let reply = device_calls::program(geometry, bits, media, offset, src);
     reply.refusal()
 }
 
@@ -173,7 +173,7 @@ pub extern "C" fn device_erase(
     ensures { λ r. ⌜ (r ≡ eraseRefusal (geometryOf capacity erase program read) (length (now (media .entry))) offset len) × (now (media .exit) ≡ eraseCall (geometryOf capacity erase program read) (now (media .entry)) offset len .content) ⌝ }
 {
     let geometry = units(capacity, erase, program, read);
-    let reply = device::erase(geometry, media, offset, len);
+    let reply = device_calls::erase(geometry, media, offset, len);
     reply.refusal()
 }
 
@@ -188,6 +188,6 @@ pub extern "C" fn device_barrier(
 ) -> u32
     ensures { λ r. ⌜ r ≡ barrierRefusal (geometryOf capacity erase program read) (length (now (media .entry))) ⌝ }
 {
-    let reply = device::barrier(units(capacity, erase, program, read), media);
+    let reply = device_calls::barrier(units(capacity, erase, program, read), media);
     reply.refusal()
 }

@@ -1,12 +1,15 @@
 -- Document 01, "Fixed examples, P to be proved": the rows marked P, as one statement about the definitions.
 -- Definitions only; assumes nothing.
 use mathlib.Core.Path.{_≡_}
-use mathlib.Core.List.{[], _∷_}
+use mathlib.Core.Bool.{Bool, true, false}
+use mathlib.Core.List.{List, [], _∷_}
 use Prim.Native.Nat.{ℕ}
 use lib.ListN.{length}
 use Rattle.storage.specs.declared.Geometry.{Geometry}
 use Rattle.storage.specs.Geometry.{geometryOf, geometryTest}
 use Rattle.storage.specs.Span.{programTest}
+use Rattle.device.specs.declared.OneWayBits.the-variants.{Absorbed}
+use Rattle.device.specs.Media.{newMedia}
 use Rattle.inject.specs.declared.Op.the-variants.{Erase, Barrier}
 use Rattle.inject.specs.declared.Progress.the-variants.{Bytes}
 use Rattle.inject.specs.declared.Interruption.{Interruption}
@@ -14,6 +17,13 @@ use Rattle.inject.specs.declared.Interruption.the-variants.{PowerLoss, Watchdog
 use Rattle.inject.specs.declared.Injection.{Injection}
 use Rattle.inject.specs.Points.{injectionsOf}
 use Rattle.landing.specs.Landed.{programLanded, eraseLanded}
+use Rattle.model.specs.declared.Durability.the-variants.{PossiblyDurable}
+use Rattle.model.specs.Ledger.{Entry}
+use Rattle.session.specs.declared.Told.{Told}
+use Rattle.session.specs.declared.Armed.the-variants.{At}
+use Rattle.ledger.specs.Records.{begin}
+use Rattle.plain.specs.Plain.{Call, act, mark, program, plain}
+use Rattle.plain.specs.Ledger.{ledger}
 
 -- capacity 16, erase unit 8, program unit 4, read unit 4
 abbrev pub small : Geometry
@@ -49,9 +59,24 @@ pub record Points : Type 0 where
   pub lone-barrier : length (injectionsOf small (Barrier ∷ [])) ≡ 5
   pub erase : length (injectionsOf small (Erase 0 16 ∷ [])) ≡ 9
 
--- all of them; the layers above add their rows
+-- "P: bytes 00 00 ff ff over erased, power loss at 2: not torn; 00 00 00 00: torn.": a record's only operation, on a new device
+abbrev pub cutAtTwo : Told
+cutAtTwo = record { geometry = small; bits = Absorbed; armed = At (cutAt 2 PowerLoss) }
+
+abbrev pub recorded : (id : ℕ) (bytes : List ℕ) → List Call
+recorded id bytes = mark (begin id) ∷ act (program 0 bytes) ∷ []
+
+abbrev pub possiblyDurable : (id : ℕ) (torn : Bool) → Entry
+possiblyDurable id torn = record { id = id; state = PossiblyDurable; mark = torn }
+
+pub record Cuts : Type 0 where
+  pub not-torn : ledger (plain cutAtTwo (newMedia 16) (recorded 7 (0x00 ∷ 0x00 ∷ 0xff ∷ 0xff ∷ []))) ≡ possiblyDurable 7 false ∷ []
+  pub torn : ledger (plain cutAtTwo (newMedia 16) (recorded 7 (0x00 ∷ 0x00 ∷ 0x00 ∷ 0x00 ∷ []))) ≡ possiblyDurable 7 true ∷ []
+
+-- all of them
 pub record FixedExamples : Type 0 where
   pub geometries : Geometries
   pub spans : Spans
   pub landings : Landings
   pub points : Points
+  pub cuts : Cuts

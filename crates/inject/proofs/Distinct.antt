@@ -6,6 +6,7 @@ use mathlib.Core.List.{List, [], _∷_, _++_, map, append-nil, List·Memᴰ, Lis
 use Prim.Native.Nat.{ℕ, zero, suc, _%_, _≤_, _<_}
 use native.Mathlib.Omega.{arith}
 use lib.Dec.{eqb}
+use Rattle.basics.proofs.Lists.{Each, each-append, each-map}
 use Rattle.storage.specs.declared.Geometry.{Geometry}
 use Rattle.inject.specs.declared.Op.{Op}
 use Rattle.inject.specs.declared.Op.the-variants.{Program, Erase, Barrier}
@@ -17,7 +18,7 @@ use Rattle.inject.specs.declared.Injection.{Injection}
 use Rattle.inject.specs.Points.{multiples, inner, bytePoints, nonePoint, wholeSpan, wholePoint, progresses, point, under, lone, opening, injectionsOf}
 use Rattle.inject.specs.Answers.{progressCode, interruptionCode}
 use Rattle.inject.specs.Claims.{Distinct}
-use Rattle.inject.proofs.Members.{Each, each-append, each-map, each-multiple, each-nonePoint, each-wholePoint, each-under, each-loss}
+use Rattle.inject.proofs.Members.{each-multiple, each-nonePoint, each-wholePoint, each-under, each-loss}
 
 -- ---- lists without a repeat
 

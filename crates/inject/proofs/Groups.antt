@@ -8,6 +8,7 @@ use native.Mathlib.Numerals.{add-one}
 use native.Mathlib.Omega.{arith}
 use lib.ListN.{length, getD, replicate, length-append, length-map, length-replicate, getD-replicate, List·getD-append}
 use lib.Seq.{getD-at, getD-append-add}
+use Rattle.basics.proofs.Lists.{getD-map-lt}
 use Rattle.storage.specs.declared.Geometry.{Geometry}
 use Rattle.inject.specs.declared.Op.{Op}
 use Rattle.inject.specs.declared.Op.the-variants.{Program, Erase, Barrier}
@@ -18,19 +19,8 @@ use Rattle.inject.specs.declared.Group.{Group}
 use Rattle.inject.specs.Ops.{lenOf}
 use Rattle.inject.specs.Points.{inner, tearPoints, resetPoints, bytePoints, nonePoint, wholeSpan, wholePoint, progresses}
 use Rattle.inject.specs.Steps.{tearUnit, resetUnit, steps, grouped, Small, GroupOf}
-use Rattle.inject.proofs.Searches.{getD-map-lt}
 
 -- ---- the two units
-
-pub tear-pos : (g : Geometry) (o : Op) → 0 < g .«erase_size» → 0 < tearUnit g o
-tear-pos g (Program offset len) h = omega arith
-tear-pos g (Erase offset len) h = h
-tear-pos g Barrier h = omega arith
-
-pub reset-pos : (g : Geometry) (o : Op) → 0 < g .«program_size» → 0 < g .«erase_size» → 0 < resetUnit g o
-reset-pos g (Program offset len) p h = p
-reset-pos g (Erase offset len) p h = h
-reset-pos g Barrier p h = omega arith
 
 pub tears : (g : Geometry) (o : Op) → inner (tearUnit g o) (lenOf o) ≡ tearPoints g o
 unfolding inner
@@ -68,6 +58,10 @@ module _ (g : Geometry) (o : Op) (w : Interruption) (len unit k wholes : ℕ) (l
 
   pub made-failed : w ≡ Failure → unit ≡ tearUnit g o → GroupOf g w o (record { nones = 1; unit = unit; inner = k; wholes = wholes })
   made-failed q u = made 1 (omega arith) (rw q) (rw (q, l, u) (tears g o))
+
+-- the same of the row that the operation was made of
+pub of-row : (g : Geometry) (w : Interruption) (o p : Op) (r : Group) → o ≡ p → GroupOf g w o r → GroupOf g w p r
+of-row g w o p r e h = rw e at h
 
 -- ---- a group's points by place
 

@@ -5,9 +5,6 @@ pub mod Searches
 pub mod Rests
 pub mod Whole
 pub mod Refusals
-pub mod Rows
-pub mod Walks
-pub mod Listings
 pub mod Formula
 pub mod Examples
 pub mod Members

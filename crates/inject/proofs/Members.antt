@@ -8,6 +8,7 @@ use native.Mathlib.Nat.{sub-self, sub-zero}
 use native.Mathlib.Omega.{arith}
 use lib.ListN.{length, getD}
 use lib.Dec.{eqb}
+use Rattle.basics.proofs.Lists.{Each, each-append, each-cons, each-none, each-map}
 use Rattle.storage.specs.declared.Geometry.{Geometry}
 use Rattle.inject.specs.declared.Op.{Op}
 use Rattle.inject.specs.declared.Op.the-variants.{Program, Erase, Barrier}
@@ -20,25 +21,6 @@ use Rattle.inject.specs.Ops.{lenOf}
 use Rattle.inject.specs.Answers.{progressCode}
 use Rattle.inject.specs.Claims.{IndexIn, CountIn}
 use Rattle.inject.specs.Points.{multiples, inner, bytePoints, nonePoint, wholeSpan, wholePoint, progresses, point, under, lone, opening, injectionsOf}
-
--- ---- every member of a list
-
-abbrev pub Each : {A : Type 0} → (A → Type 0) → List A → Type 0
-Each {A} P xs = (x : A) → List·Memᴰ x xs → P x
-
-pub each-append : {A : Type 0} (P : A → Type 0) (xs ys : List A) → Each P xs → Each P ys → Each P (xs ++ ys)
-each-append P xs ys p q x m = ⊎-elim (p x) (q x) (List·Memᴰ·append-cases xs m)
-
-pub each-cons : {A : Type 0} (P : A → Type 0) (y : A) (ys : List A) → P y → Each P ys → Each P (y ∷ ys)
-each-cons P y ys p q x m = ⊎-elim (λ e. subst⁻¹ P e p) (q x) (List·Memᴰ·cases-cons m)
-
-pub each-none : {A : Type 0} (P : A → Type 0) → Each P []
-each-none P x m = absurd (List·Memᴰ·not-nil m)
-
-pub each-map : {A B : Type 0} (P : B → Type 0) (f : A → B) (xs : List A) → Each (λ a. P (f a)) xs → Each P (map f xs)
-each-map P f [] p = each-none P
-each-map P f (a ∷ xs) p =
-    each-cons P (f a) (map f xs) (p a (List·Memᴰ·head refl)) (each-map P f xs (λ x m. p x (List·Memᴰ·tail m)))
 
 -- ---- within an operation
 

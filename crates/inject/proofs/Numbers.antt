@@ -12,7 +12,7 @@ use Rattle.inject.specs.declared.Interruption.{Interruption}
 use Rattle.inject.specs.declared.Interruption.the-variants.{PowerLoss, Watchdog, Failure}
 use Rattle.inject.specs.declared.Injection.{Injection}
 use Rattle.inject.specs.Points.{point}
-use Rattle.inject.specs.Answers.{pointsOf, countTest, countedBy, counted, numberOfCounted, placeTest, foundBy, found, numberOfFound, PointColumns, writeTest, listedBy, listed, numberOfWritten, progressCode, countCode, interruptionCode}
+use Rattle.inject.specs.Answers.{countTest, countedBy, counted, numberOfCounted, placeTest, foundBy, found, numberOfFound, progressCode, countCode, interruptionCode}
 
 -- ---- an answer's number is the one that the tests give
 
@@ -24,19 +24,12 @@ found-by : (number : ℕ) (p : Injection) → numberOfFound (foundBy number p) �
 found-by zero p = refl
 found-by (suc n) p = rw (ne-eqb (suc n) 0 (suc-ne-zero n))
 
-listed-by : (number : ℕ) (ps : List Injection) (c : PointColumns) → numberOfWritten (listedBy number ps c .reply) ≡ number
-listed-by zero ps c = refl
-listed-by (suc n) ps c = rw (ne-eqb (suc n) 0 (suc-ne-zero n))
-
 module _ (g : Geometry) (kinds offsets lens : List ℕ) where
   pub count-number : numberOfCounted (counted g kinds offsets lens) ≡ countTest g kinds offsets lens
   count-number = counted-by (countTest g kinds offsets lens) _
 
   pub place-number : (place : ℕ) → numberOfFound (found g kinds offsets lens place) ≡ placeTest g kinds offsets lens place
   place-number place = found-by (placeTest g kinds offsets lens place) _
-
-  pub write-number : (c : PointColumns) → numberOfWritten (listed g kinds offsets lens c .reply) ≡ writeTest g kinds offsets lens c
-  write-number c = listed-by (writeTest g kinds offsets lens c) (pointsOf g kinds offsets lens) c
 
 -- ---- the codes lose nothing: two points with the same row are the same point
 

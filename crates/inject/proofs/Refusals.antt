@@ -12,8 +12,6 @@ use Rattle.basics.proofs.Tests.{firstOf-zero, unless-zero}
 use Rattle.storage.specs.declared.Geometry.{Geometry}
 use Rattle.storage.specs.Geometry.{anyZero, noPowerOfTwo, unnested, geometryTest}
 use Rattle.storage.specs.Answers.{numberOfValidated, answered}
-use Rattle.storage.proofs.Checks.{nests}
-use Rattle.storage.proofs.Powers.{unit-pos}
 use Rattle.inject.specs.Ops.{known}
 use Rattle.inject.specs.Answers.{most, listTest}
 use Rattle.inject.specs.Steps.{Sound}
@@ -84,8 +82,6 @@ passes g ks os ls equal e =
     let i = firstOf-zero (unless (leb (length ks) most) 27) [] (h .1) in
     record {
       sound = record {
-        program = unit-pos (g .«program_size») (nests g (a .0) .program-one);
-        erase = unit-pos (g .«erase_size») (nests g (a .0) .erase-one);
         offsets-equal = eqb-true _ _ (unless-zero (eqb (length ks) (length os)) 11 (b .0));
         lens-equal = eqb-true _ _ (unless-zero (eqb (length ks) (length ls)) 11 (d .0));
         few = leb-true _ _ (unless-zero (leb (length ks) most) 26 (i .0));

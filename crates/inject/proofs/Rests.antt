@@ -7,6 +7,7 @@ use native.Mathlib.Numerals.{add-one}
 use lib.ListN.{length, getD, drop, length-append, length-map, drop-of-length-le}
 use lib.Seq.{drop-cons}
 use lib.Dec.{ltb}
+use Rattle.basics.proofs.Lists.{getD-map-lt}
 use Rattle.storage.specs.declared.Geometry.{Geometry}
 use Rattle.inject.specs.declared.Progress.the-variants.{None}
 use Rattle.inject.specs.declared.Interruption.{Interruption}
@@ -16,7 +17,7 @@ use Rattle.inject.specs.declared.Sought.the-variants.{At}
 use Rattle.inject.specs.Ops.{opsOf, known}
 use Rattle.inject.specs.Points.{progresses, point, under}
 use Rattle.inject.specs.Steps.{Sound, opAt, grouped, GroupOf, sought}
-use Rattle.inject.proofs.Searches.{getD-map-lt, sought-in, sought-past}
+use Rattle.inject.proofs.Searches.{sought-in, sought-past}
 
 abbrev pub rest : Geometry → Interruption → ℕ → (kinds offsets lens : List ℕ) → List Injection
 rest g w i ks os ls = under g w i (opsOf (drop i ks) (drop i os) (drop i ls))

@@ -11,11 +11,6 @@ use Rattle.inject.specs.declared.Sought.{Sought}
 use Rattle.inject.specs.declared.Sought.the-variants.{At, Past}
 use Rattle.inject.specs.Steps.{sought, onward, loneFor}
 
-pub getD-map-lt : {A B : Type 0} (f : A → B) (l : List A) (i : ℕ) (d : A) (e : B) → i < length l → getD (map f l) i e ≡ f (getD l i d)
-getD-map-lt f [] i d e h = absurd (not-suc-le-zero h)
-getD-map-lt f (a ∷ l) zero d e h = refl
-getD-map-lt f (a ∷ l) (suc i) d e h = getD-map-lt f l i d e (omega arith)
-
 -- ---- in the first part, or past it
 
 pub sought-in : (xs ys : List Injection) (n : ℕ) (d : Injection) → n < length xs → sought (xs ++ ys) n ≡ At (getD xs n d)

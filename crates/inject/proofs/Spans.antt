@@ -1,9 +1,9 @@
 -- The inner multiples of a unit are its first ones: `(len - 1) / unit` of them. Assumes nothing.
-use mathlib.Core.Path.{_≡_, ap, _∙_}
+use mathlib.Core.Path.{_≡_, refl, ap, _∙_}
 use mathlib.Core.Logic.{_⊎_, inl, inr, ⊎-elim}
-use mathlib.Core.List.{append-nil}
+use mathlib.Core.List.{[], append-nil}
 use Prim.Native.Nat.{ℕ, zero, suc, _+_, _-_, _*_, _/_, _%_, _^_, _<_}
-use native.Mathlib.Nat.{mod-lt, div-add-mod', eq-or-lt-of-le, div-eq-of-eq-mul-left, div-eq-of-lt-le, mul-mod-left, mul-add-mod-self-right, mod-eq-of-lt, suc-mul, add-mul, one-mul, zero-div, div-mul-le-self, not-suc-le-zero, lt-of-le-of-lt, mul-le-mul-right}
+use native.Mathlib.Nat.{suc-ne-zero, mod-zero, mod-lt, div-add-mod', eq-or-lt-of-le, div-eq-of-eq-mul-left, div-eq-of-lt-le, mul-mod-left, mul-add-mod-self-right, mod-eq-of-lt, suc-mul, add-mul, one-mul, zero-div, div-mul-le-self, not-suc-le-zero, lt-of-le-of-lt, mul-le-mul-right}
 use native.Mathlib.Numerals.{sub-one}
 use native.Mathlib.Omega.{arith}
 use borrow.Author.Tests.{eq-eqb, ne-eqb}
@@ -50,6 +50,17 @@ pub steps-inner : (u n : ℕ) → 0 < u → 0 < n → steps u ((n - 1) / u) ≡ 
 unfolding inner
 steps-inner u zero h k = absurd (not-suc-le-zero k)
 steps-inner u (suc n) h k = rw sub-one (steps-multiples u n h)
+
+-- the unit 0 has none
+no-multiples : (n : ℕ) → [] ≡ multiples 0 n
+unfolding multiples
+no-multiples zero = refl
+no-multiples (suc n) = simp (mod-zero, ne-eqb (suc n) 0 (suc-ne-zero n), append-nil) (no-multiples n)
+
+pub no-inner : (u n : ℕ) → u ≡ 0 → [] ≡ inner u n
+unfolding inner
+no-inner u zero e = refl
+no-inner u (suc n) e = rw e (no-multiples n)
 
 -- the last of them lies within the span
 pub steps-fit : (u n : ℕ) → n < 2 ^ 32 → (n - 1) / u * u < 2 ^ 32

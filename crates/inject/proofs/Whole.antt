@@ -1,8 +1,9 @@
 -- The whole list, from its opening point through its four parts: what the public functions answer. Assumes nothing.
 use mathlib.Core.Path.{_≡_, refl, sym, ap, _∙_}
-use mathlib.Core.Bool.{true}
-use mathlib.Core.List.{List, [], _∷_, _++_, append-assoc}
+use mathlib.Core.Bool.{Bool, true}
+use mathlib.Core.List.{List, [], _∷_, _++_}
 use Prim.Native.Nat.{ℕ, zero, suc, _+_}
+use native.Mathlib.Nat.{suc-ne-zero}
 use native.Mathlib.Omega.{arith}
 use lib.ListN.{length, replicate, length-append, length-replicate}
 use borrow.Author.Tests.{eq-eqb, ne-eqb, lt-ltb, le-ltb}
@@ -16,8 +17,8 @@ use Rattle.inject.specs.declared.Sought.{Sought}
 use Rattle.inject.specs.declared.Sought.the-variants.{At, Past}
 use Rattle.inject.specs.Ops.{opsOf}
 use Rattle.inject.specs.Points.{under, lone, opening, injectionsOf}
-use Rattle.inject.specs.Answers.{listTest, pointsOf, counted, found}
-use Rattle.inject.specs.Steps.{Sound, lonePoint, loneFor, partOf, laterOf, sought, onward}
+use Rattle.inject.specs.Answers.{listTest, pointsOf, countedBy, countedBeside, found}
+use Rattle.inject.specs.Steps.{Sound, lonePoint, loneFor, sought, onward}
 use Rattle.inject.proofs.Searches.{onward-next, sought-at, sought-beyond}
 
 -- ---- the point that only an empty list has
@@ -32,10 +33,6 @@ lone-for [] os ls h k = refl
 lone-for (a ∷ ks) [] ls h k = absurd (omega arith)
 lone-for (a ∷ ks) (b ∷ os) [] h k = absurd (omega arith)
 lone-for (a ∷ ks) (b ∷ os) (d ∷ ls) h k = refl
-
-pub later-in-two : (g : Geometry) (ks os ls : List ℕ) (times : ℕ) → replicate times lonePoint ≡ loneFor (length ks)
-    → laterOf g ks os ls ≡ partOf times Watchdog g ks os ls ++ under g Failure 0 (opsOf ks os ls)
-later-in-two g ks os ls times e = rw e (sym (append-assoc (loneFor (length ks)) _ _))
 
 -- ---- a sound list's points, part by part
 
@@ -53,10 +50,6 @@ module _ (g : Geometry) (ks os ls : List ℕ) (s : Sound g ks os ls) where
   whole-count a b d e x y z w =
       let alone : b ≡ length (loneFor (length ks)) = sym (length-replicate b lonePoint) ∙ ap length y in
       sym (ap length parts ∙ simp (length-append) (omega arith))
-
-  -- the same, as the parts are written
-  pub in-two : pointsOf g ks os ls ≡ partOf 1 PowerLoss g ks os ls ++ laterOf g ks os ls
-  in-two = parts
 
   -- five searches, one after the other
   pub whole-search : (n : ℕ) (a b d e f : Sought) → a ≡ onward (Past n) (opening ∷ []) → b ≡ onward a (under g PowerLoss 0 (opsOf ks os ls))
@@ -76,13 +69,26 @@ module _ (g : Geometry) (ks os ls : List ℕ) (s : Sound g ks os ls) where
 
 -- ---- what is answered
 
-module _ (g : Geometry) (ks os ls : List ℕ) (number : ℕ) (told : number ≡ listTest g ks os ls true) where
-  pub count-refused : (number ≡ 0 → ⊥) → NotCounted number ≡ counted g ks os ls
+-- an answered count tells the number that the tests gave
+pub not-counted : (number count n : ℕ) → countedBy number count ≡ NotCounted n → (number ≡ n) × (n ≡ 0 → ⊥)
+not-counted zero count n e = absurd (let z : _≡_ {A = ℕ} 0 1 = cc in omega arith)
+not-counted (suc k) count n e =
+    let q : NotCounted (suc k) ≡ NotCounted n = rw (ne-eqb (suc k) 0 (suc-ne-zero k)) at e in
+    let s : suc k ≡ n = cc in
+    (s, λ z. suc-ne-zero k (s ∙ z))
+
+pub was-counted : (number count n : ℕ) → countedBy number count ≡ Points n → (number ≡ 0) × (n ≡ count)
+was-counted zero count n e = (refl, let q : Points count ≡ Points n = e in cc)
+was-counted (suc k) count n e = absurd (let z : _≡_ {A = ℕ} 0 1 = cc (rw (ne-eqb (suc k) 0 (suc-ne-zero k)) at e) in omega arith)
+
+module _ (g : Geometry) (ks os ls : List ℕ) (equal : Bool) (number : ℕ) (told : number ≡ listTest g ks os ls equal) where
+  pub count-refused : (number ≡ 0 → ⊥) → NotCounted number ≡ countedBeside g ks os ls equal
   count-refused h = rw (← told, ne-eqb number 0 h)
 
-  pub count-taken : (count : ℕ) → number ≡ 0 → count ≡ length (pointsOf g ks os ls) → Points count ≡ counted g ks os ls
+  pub count-taken : (count : ℕ) → number ≡ 0 → count ≡ length (pointsOf g ks os ls) → Points count ≡ countedBeside g ks os ls equal
   count-taken count z e = rw (← told, eq-eqb number 0 z, ← e)
 
+module _ (g : Geometry) (ks os ls : List ℕ) (number : ℕ) (told : number ≡ listTest g ks os ls true) where
   module _ (place : ℕ) where
     pub place-refused : (number ≡ 0 → ⊥) → NotFound number ≡ found g ks os ls place
     unfolding firstOf

@@ -1,10 +1,9 @@
--- What only private contracts cite: a group's points from four numbers, a search that goes on from part to part, rows
--- stored from a place on. Definitions only; assumes nothing.
+-- How the points are found: a group's points from four numbers, a search that goes on from part to part. Definitions only;
+-- assumes nothing.
 use mathlib.Core.Path.{_≡_}
 use mathlib.Core.List.{List, [], _∷_, _++_, map}
 use Prim.Native.Nat.{ℕ, zero, suc, _+_, _*_, _≤_, _<_, _^_}
 use lib.ListN.{length, getD, replicate}
-use lib.Seq.{sets}
 use Rattle.storage.specs.declared.Geometry.{Geometry}
 use Rattle.inject.specs.declared.Op.{Op}
 use Rattle.inject.specs.declared.Op.the-variants.{Program, Erase, Barrier}
@@ -18,13 +17,11 @@ use Rattle.inject.specs.declared.Sought.{Sought}
 use Rattle.inject.specs.declared.Sought.the-variants.{At, Past}
 use Rattle.inject.specs.Ops.{opOf, opsOf}
 use Rattle.inject.specs.Points.{progresses, point, under}
-use Rattle.inject.specs.Answers.{most, PointColumns, columnsOf, progressCode, countCode, interruptionCode}
+use Rattle.inject.specs.Answers.{most}
 
 -- ---- a list that is not refused
 
 pub record Sound (g : Geometry) (kinds offsets lens : List ℕ) : Type 0 where
-  pub program : 0 < g .«program_size»
-  pub erase : 0 < g .«erase_size»
   pub offsets-equal : length kinds ≡ length offsets
   pub lens-equal : length kinds ≡ length lens
   pub few : length kinds ≤ most
@@ -75,17 +72,6 @@ abbrev pub loneFor : (operations : ℕ) → List Injection
 loneFor zero = lonePoint ∷ []
 loneFor (suc n) = []
 
--- ---- the list in the parts that are written one after the other
-
--- a none point of operation 0 so many times, and then an interruption by operation
-abbrev pub partOf : (times : ℕ) → Interruption → Geometry → (kinds offsets lens : List ℕ) → List Injection
-partOf times w g kinds offsets lens = replicate times (point 0 w None) ++ under g w 0 (opsOf kinds offsets lens)
-
--- what follows the points of power loss
-abbrev pub laterOf : Geometry → (kinds offsets lens : List ℕ) → List Injection
-laterOf g kinds offsets lens =
-    loneFor (length kinds) ++ (under g Watchdog 0 (opsOf kinds offsets lens) ++ under g Failure 0 (opsOf kinds offsets lens))
-
 -- ---- a search
 
 -- a part of a list searched for a place: the point there, or how far past the part the place lies
@@ -98,36 +84,3 @@ sought (x ∷ xs) (suc n) = sought xs n
 abbrev pub onward : Sought → List Injection → Sought
 onward (At x) xs = At x
 onward (Past n) xs = sought xs n
-
--- ---- rows of the lent columns
-
--- points stored one to a row, from a place on
-unfoldable pub laid : ℕ → List Injection → PointColumns → PointColumns
-laid at ps columns =
-    columnsOf
-    (sets (columns .ops) at (map (λ p. p .op) ps))
-    (sets (columns .progresses) at (map (λ p. progressCode (p .progress)) ps))
-    (sets (columns .counts) at (map (λ p. countCode (p .progress)) ps))
-    (sets (columns .interruptions) at (map (λ p. interruptionCode (p .interruption)) ps))
-
--- one operation's byte points
-abbrev pub bytesAt : (op : ℕ) → Interruption → (unit k : ℕ) → List Injection
-bytesAt op w unit k = map (point op w) (map Bytes (steps unit k))
-
--- each column has n rows
-pub record Room (n : ℕ) (columns : PointColumns) : Type 0 where
-  pub in-ops : n ≤ length (columns .ops)
-  pub in-progresses : n ≤ length (columns .progresses)
-  pub in-counts : n ≤ length (columns .counts)
-  pub in-interruptions : n ≤ length (columns .interruptions)
-
--- the place after the last row stored, and the columns
-pub record Rows : Type 0 where
-  pub next : ℕ
-  pub columns : PointColumns
-
-abbrev pub rows : ℕ → PointColumns → Rows
-rows next columns = record { next = next; columns = columns }
-
-abbrev pub laidFrom : ℕ → List Injection → PointColumns → Rows
-laidFrom at ps columns = rows (at + length ps) (laid at ps columns)

@@ -1,17 +1,17 @@
-// Every way that a list of operations can be interrupted, listed: how many crash points there are, the one at a place, and
-// all of them written to lent columns. Follows waymaker-fault's inject.rs. There the list is a Vec; here it is a definition,
+// Every way that a list of operations can be interrupted, listed: how many crash points there are, and the one at a place.
+// (`inject_columns` writes all of them.) Follows waymaker-fault's inject.rs. There the list is a Vec; here it is a definition,
 // `injectionsOf` of specs/Points.antt, and each function's contract is an equation with it, for every input. A list of
 // operations is three columns of one length: kinds (0 a program, 1 an erase, 2 a barrier), offsets and lengths in bytes.
 // The spans are any u32: no point depends on where the device ends, so nothing here asks it.
 use storage::Geometry;
 ghost use mathlib.Core.Path.{_≡_};
-ghost use mathlib.Core.List.{[], _∷_, map};
-ghost use Prim.Native.Nat.{_+_, _*_, _≤_, _<_, _^_};
+ghost use mathlib.Core.List.{[], _∷_};
+ghost use Prim.Native.Nat.{_*_, _≤_, _<_, _^_};
 ghost use lib.ListN.{length, getD, replicate};
 ghost use Rattle.inject.specs.Ops.{opOf, opsOf, known, lenOf};
-ghost use Rattle.inject.specs.Points.{inner, wholeSpan, wholePoint, point, under};
-ghost use Rattle.inject.specs.Answers.{most, listTest, pointsOf, counted, found, columnsOf, listing, listed, progressCode, countCode, interruptionCode};
-ghost use Rattle.inject.specs.Steps.{Sound, opAt, tearUnit, resetUnit, steps, grouped, Small, GroupOf, lonePoint, loneFor, partOf, laterOf, sought, onward, laid, laidFrom, bytesAt, Room, rows};
+ghost use Rattle.inject.specs.Points.{inner, wholeSpan, wholePoint, under};
+ghost use Rattle.inject.specs.Answers.{listTest, pointsOf, countedBeside, counted, found};
+ghost use Rattle.inject.specs.Steps.{Sound, tearUnit, resetUnit, steps, grouped, Small, GroupOf, lonePoint, loneFor, sought, onward};
 
 // One operation of a write sequence: offsets and lengths only.
 pub enum Op {
@@ -60,19 +60,13 @@ pub enum Found {
     NotFound(u32),
 }
 
-// All points are written, this many; or the number that refuses, with nothing written.
-pub enum Written {
-    All(usize),
-    NotWritten(u32),
-}
-
 // One operation's points under one interruption: how many none points (0 or 1), how many byte points, which are the first
 // multiples of a unit, and how many whole points (0 or 1).
-struct Group {
-    nones: u32,
-    unit: u32,
-    inner: u32,
-    wholes: u32,
+pub struct Group {
+    pub nones: u32,
+    pub unit: u32,
+    pub inner: u32,
+    pub wholes: u32,
 }
 
 // A part of the list, searched for a place: the point, or how far past the part the place lies.
@@ -101,12 +95,14 @@ fn whole_span(len: u32) -> u32
     if len == 0 { 0 } else { 1 }
 }
 
-// How many multiples of a unit lie above 0 and below a length.
+// How many multiples of a unit lie above 0 and below a length; none of the unit 0.
 fn inner_count(unit: u32, len: u32) -> u32
-    requires { ⌜ 0 < unit ⌝ }
     ensures { λ r. ⌜ (steps unit r ≡ inner unit len) × (r * unit < 2 ^ 32) ⌝ }
 {
     if len == 0 {
+        return 0;
+    }
+    if unit == 0 {
         return 0;
     }
     (len - 1) / unit
@@ -163,18 +159,18 @@ impl Op {
     }
 }
 
-// One operation's points under an interruption. None of an operation is the end of the one before it to a power loss,
-// and a point of its own to the other two.
-fn group_of(op: Op, geometry: Geometry, cause: Interruption) -> Group
-    requires { ⌜ (0 < geometry .«program_size») × (0 < geometry .«erase_size») ⌝ }
-    ensures { λ r. ⌜ GroupOf geometry cause op r ⌝ }
+// A row's points under an interruption. None of an operation is the end of the one before it to a power loss, and a point
+// of its own to the other two.
+pub fn group_of(kind: u8, offset: u32, len: u32, geometry: Geometry, cause: Interruption) -> Group
+    ensures { λ r. ⌜ GroupOf geometry cause (opOf kind offset len) r ⌝ }
 {
-    let len = op.len();
+    let op = op_of(kind, offset, len);
+    let span = op.len();
     let wholes = op.wholes(cause);
     match cause {
         Interruption::PowerLoss => {
             let unit = op.tear_unit(geometry);
-            let inner = inner_count(unit, len);
+            let inner = inner_count(unit, span);
             Group {
                 nones: 0,
                 unit,
@@ -184,7 +180,7 @@ fn group_of(op: Op, geometry: Geometry, cause: Interruption) -> Group
         }
         Interruption::Watchdog => {
             let unit = op.reset_unit(geometry);
-            let inner = inner_count(unit, len);
+            let inner = inner_count(unit, span);
             Group {
                 nones: 1,
                 unit,
@@ -194,7 +190,7 @@ fn group_of(op: Op, geometry: Geometry, cause: Interruption) -> Group
         }
         Interruption::Failure => {
             let unit = op.tear_unit(geometry);
-            let inner = inner_count(unit, len);
+            let inner = inner_count(unit, span);
             Group {
                 nones: 1,
                 unit,
@@ -203,24 +199,6 @@ fn group_of(op: Op, geometry: Geometry, cause: Interruption) -> Group
             }
         }
     }
-}
-
-// One row's points under an interruption.
-fn group_at(
-    kinds: &[u8],
-    offsets: &[u32],
-    lens: &[u32],
-    i: usize,
-    geometry: Geometry,
-    cause: Interruption,
-) -> Group
-    requires { ⌜ (Sound geometry (now kinds) (now offsets) (now lens)) × (i < length (now kinds)) ⌝ }
-    ensures { λ r. ⌜ GroupOf geometry cause (opAt (now (kinds .entry)) (now (offsets .entry)) (now (lens .entry)) i) r ⌝ }
-{
-    let kind = kinds[i];
-    let offset = offsets[i];
-    let len = lens[i];
-    group_of(op_of(kind, offset, len), geometry, cause)
 }
 
 // How many points a group has.
@@ -308,7 +286,7 @@ fn total(
     let mut sum: u64 = 0;
     let mut i: usize = 0;
     while i < kinds.len() {
-        let group = group_at(kinds, offsets, lens, i, geometry, cause);
+        let group = group_of(kinds[i], offsets[i], lens[i], geometry, cause);
         sum += size(group);
         i += 1;
     }
@@ -316,7 +294,7 @@ fn total(
 }
 
 // How many watchdog points a list has before those of its operations: one, if it is empty.
-fn lone_count(operations: usize) -> u32
+pub fn lone_count(operations: usize) -> u32
     ensures { λ r. ⌜ (replicate r lonePoint ≡ loneFor operations) × (r ≤ 1) ⌝ }
 {
     if operations == 0 { 1 } else { 0 }
@@ -334,16 +312,29 @@ fn count(kinds: &[u8], offsets: &[u32], lens: &[u32], geometry: Geometry) -> u64
     1 + lost + alone + reset + failed
 }
 
-// How many crash points the operations have.
-pub fn injection_count(kinds: &[u8], offsets: &[u32], lens: &[u32], geometry: Geometry) -> Counted
-    ensures { λ r. ⌜ r ≡ counted geometry (now (kinds .entry)) (now (offsets .entry)) (now (lens .entry)) ⌝ }
+// How many crash points the operations have, for a caller who lends columns too: `equal` tells whether they are of one length.
+pub fn count_beside(
+    kinds: &[u8],
+    offsets: &[u32],
+    lens: &[u32],
+    geometry: Geometry,
+    equal: bool,
+) -> Counted
+    ensures { λ r. ⌜ r ≡ countedBeside geometry (now (kinds .entry)) (now (offsets .entry)) (now (lens .entry)) equal ⌝ }
 {
-    let refused = refuse(kinds, offsets, lens, geometry, true);
+    let refused = refuse(kinds, offsets, lens, geometry, equal);
     if refused != 0 {
         return Counted::NotCounted(refused);
     }
     let points = count(kinds, offsets, lens, geometry);
     Counted::Points(points)
+}
+
+// How many crash points the operations have.
+pub fn injection_count(kinds: &[u8], offsets: &[u32], lens: &[u32], geometry: Geometry) -> Counted
+    ensures { λ r. ⌜ r ≡ counted geometry (now (kinds .entry)) (now (offsets .entry)) (now (lens .entry)) ⌝ }
+{
+    count_beside(kinds, offsets, lens, geometry, true)
 }
 
 // A search goes on: in a list of one point.
@@ -393,7 +384,7 @@ fn seek_groups(
     let mut left = place;
     let mut i: usize = 0;
     while i < kinds.len() {
-        let group = group_at(kinds, offsets, lens, i, geometry, cause);
+        let group = group_of(kinds[i], offsets[i], lens[i], geometry, cause);
         let points = size(group);
         if left < points {
             let progress = progress_at(group, left);
@@ -462,373 +453,4 @@ pub fn injection_at(
         Sought::At(injection) => Found::Point(injection),
         Sought::Past(_) => Found::NotFound(11),
     }
-}
-
-impl Progress {
-    // The column of kinds of progress: 0 none, 1 a byte count, 2 whole.
-    fn code(self) -> u8
-        ensures { λ r. ⌜ r ≡ progressCode self ⌝ }
-    {
-        match self {
-            Progress::None => 0,
-            Progress::Bytes(_) => 1,
-            Progress::Whole => 2,
-        }
-    }
-
-    // The column of byte counts, 0 where there is none.
-    fn bytes(self) -> u32
-        ensures { λ r. ⌜ r ≡ countCode self ⌝ }
-    {
-        match self {
-            Progress::None => 0,
-            Progress::Bytes(count) => count,
-            Progress::Whole => 0,
-        }
-    }
-}
-
-impl Interruption {
-    // The column of interruptions: 0 power loss, 1 watchdog, 2 failure.
-    fn code(self) -> u8
-        ensures { λ r. ⌜ r ≡ interruptionCode self ⌝ }
-    {
-        match self {
-            Interruption::PowerLoss => 0,
-            Interruption::Watchdog => 1,
-            Interruption::Failure => 2,
-        }
-    }
-}
-
-// Writes one point's row.
-fn write_point(
-    injection: Injection,
-    at: usize,
-    ops: &mut [u32],
-    progresses: &mut [u8],
-    counts: &mut [u32],
-    interruptions: &mut [u8],
-)
-    requires { ⌜ (injection .op < most) × (Room (at + 1) (columnsOf (now ops) (now progresses) (now counts) (now interruptions))) ⌝ }
-    ensures { λ _. ⌜ columnsOf (now (ops .exit)) (now (progresses .exit)) (now (counts .exit)) (now (interruptions .exit)) ≡ laid at (injection ∷ []) (columnsOf (now (ops .entry)) (now (progresses .entry)) (now (counts .entry)) (now (interruptions .entry))) ⌝ }
-{
-    let progress = injection.progress;
-    let interruption = injection.interruption;
-    let op = injection.op as u32;
-    let kind = progress.code();
-    let count = progress.bytes();
-    let cause = interruption.code();
-    ops[at] = op;
-    progresses[at] = kind;
-    counts[at] = count;
-    interruptions[at] = cause;
-}
-
-// Writes one point so many times: an operation has none or one of its none points and of its whole points.
-fn write_same(
-    times: u32,
-    progress: Progress,
-    op: usize,
-    cause: Interruption,
-    at: usize,
-    ops: &mut [u32],
-    progresses: &mut [u8],
-    counts: &mut [u32],
-    interruptions: &mut [u8],
-) -> usize
-    requires { ⌜ (op < most) × (Room (at + times) (columnsOf (now ops) (now progresses) (now counts) (now interruptions))) ⌝ }
-    ensures { λ r. ⌜ rows r (columnsOf (now (ops .exit)) (now (progresses .exit)) (now (counts .exit)) (now (interruptions .exit))) ≡ laidFrom at (replicate times (point op cause progress)) (columnsOf (now (ops .entry)) (now (progresses .entry)) (now (counts .entry)) (now (interruptions .entry))) ⌝ }
-{
-    let mut next = at;
-    let mut done: u32 = 0;
-    while done < times {
-        let injection = Injection {
-            op,
-            progress,
-            interruption: cause,
-        };
-        write_point(injection, next, ops, progresses, counts, interruptions);
-        next += 1;
-        done += 1;
-    }
-    next
-}
-
-// Writes the byte points of a group, ascending.
-fn write_bytes(
-    unit: u32,
-    inner: u32,
-    op: usize,
-    cause: Interruption,
-    at: usize,
-    ops: &mut [u32],
-    progresses: &mut [u8],
-    counts: &mut [u32],
-    interruptions: &mut [u8],
-) -> usize
-    requires { ⌜ (op < most) × (inner * unit < 2 ^ 32) × (Room (at + inner) (columnsOf (now ops) (now progresses) (now counts) (now interruptions))) ⌝ }
-    ensures { λ r. ⌜ rows r (columnsOf (now (ops .exit)) (now (progresses .exit)) (now (counts .exit)) (now (interruptions .exit))) ≡ laidFrom at (bytesAt op cause unit inner) (columnsOf (now (ops .entry)) (now (progresses .entry)) (now (counts .entry)) (now (interruptions .entry))) ⌝ }
-{
-    let mut next = at;
-    let mut done: u32 = 0;
-    while done < inner {
-        let injection = Injection {
-            op,
-            progress: Progress::Bytes((done + 1) * unit),
-            interruption: cause,
-        };
-        write_point(injection, next, ops, progresses, counts, interruptions);
-        next += 1;
-        done += 1;
-    }
-    next
-}
-
-// Writes one operation's points under an interruption.
-fn write_group(
-    group: Group,
-    op: usize,
-    cause: Interruption,
-    at: usize,
-    ops: &mut [u32],
-    progresses: &mut [u8],
-    counts: &mut [u32],
-    interruptions: &mut [u8],
-) -> usize
-    requires { ⌜ (op < most) × (Small group) × (Room (at + length (grouped group)) (columnsOf (now ops) (now progresses) (now counts) (now interruptions))) ⌝ }
-    ensures { λ r. ⌜ rows r (columnsOf (now (ops .exit)) (now (progresses .exit)) (now (counts .exit)) (now (interruptions .exit))) ≡ laidFrom at (map (point op cause) (grouped group)) (columnsOf (now (ops .entry)) (now (progresses .entry)) (now (counts .entry)) (now (interruptions .entry))) ⌝ }
-{
-    let first = write_same(
-        group.nones,
-        Progress::None,
-        op,
-        cause,
-        at,
-        ops,
-        progresses,
-        counts,
-        interruptions,
-    );
-    let last = write_bytes(
-        group.unit,
-        group.inner,
-        op,
-        cause,
-        first,
-        ops,
-        progresses,
-        counts,
-        interruptions,
-    );
-    write_same(
-        group.wholes,
-        Progress::Whole,
-        op,
-        cause,
-        last,
-        ops,
-        progresses,
-        counts,
-        interruptions,
-    )
-}
-
-// Writes the operations' points under an interruption. Each operation's group is made once, so the work grows with the
-// operations and the points, not with their product.
-fn write_groups(
-    kinds: &[u8],
-    offsets: &[u32],
-    lens: &[u32],
-    geometry: Geometry,
-    cause: Interruption,
-    at: usize,
-    ops: &mut [u32],
-    progresses: &mut [u8],
-    counts: &mut [u32],
-    interruptions: &mut [u8],
-) -> usize
-    requires { ⌜ (Sound geometry (now kinds) (now offsets) (now lens)) × (Room (at + length (under geometry cause 0 (opsOf (now kinds) (now offsets) (now lens)))) (columnsOf (now ops) (now progresses) (now counts) (now interruptions))) ⌝ }
-    ensures { λ r. ⌜ rows r (columnsOf (now (ops .exit)) (now (progresses .exit)) (now (counts .exit)) (now (interruptions .exit))) ≡ laidFrom at (under geometry cause 0 (opsOf (now (kinds .entry)) (now (offsets .entry)) (now (lens .entry)))) (columnsOf (now (ops .entry)) (now (progresses .entry)) (now (counts .entry)) (now (interruptions .entry))) ⌝ }
-{
-    let mut next = at;
-    let mut i: usize = 0;
-    while i < kinds.len() {
-        let group = group_at(kinds, offsets, lens, i, geometry, cause);
-        next = write_group(
-            group,
-            i,
-            cause,
-            next,
-            ops,
-            progresses,
-            counts,
-            interruptions,
-        );
-        i += 1;
-    }
-    next
-}
-
-// Writes the none point of operation 0 so many times, and then the operations' points under the same interruption.
-fn write_part(
-    times: u32,
-    kinds: &[u8],
-    offsets: &[u32],
-    lens: &[u32],
-    geometry: Geometry,
-    cause: Interruption,
-    at: usize,
-    ops: &mut [u32],
-    progresses: &mut [u8],
-    counts: &mut [u32],
-    interruptions: &mut [u8],
-) -> usize
-    requires { ⌜ (Sound geometry (now kinds) (now offsets) (now lens)) × (Room (at + length (partOf times cause geometry (now kinds) (now offsets) (now lens))) (columnsOf (now ops) (now progresses) (now counts) (now interruptions))) ⌝ }
-    ensures { λ r. ⌜ rows r (columnsOf (now (ops .exit)) (now (progresses .exit)) (now (counts .exit)) (now (interruptions .exit))) ≡ laidFrom at (partOf times cause geometry (now (kinds .entry)) (now (offsets .entry)) (now (lens .entry))) (columnsOf (now (ops .entry)) (now (progresses .entry)) (now (counts .entry)) (now (interruptions .entry))) ⌝ }
-{
-    let next = write_same(
-        times,
-        Progress::None,
-        0,
-        cause,
-        at,
-        ops,
-        progresses,
-        counts,
-        interruptions,
-    );
-    write_groups(
-        kinds,
-        offsets,
-        lens,
-        geometry,
-        cause,
-        next,
-        ops,
-        progresses,
-        counts,
-        interruptions,
-    )
-}
-
-// Writes all points but those of power loss. Before the operations' watchdog points comes the one that only an empty list has.
-fn write_later(
-    kinds: &[u8],
-    offsets: &[u32],
-    lens: &[u32],
-    geometry: Geometry,
-    at: usize,
-    ops: &mut [u32],
-    progresses: &mut [u8],
-    counts: &mut [u32],
-    interruptions: &mut [u8],
-) -> usize
-    requires { ⌜ (Sound geometry (now kinds) (now offsets) (now lens)) × (Room (at + length (laterOf geometry (now kinds) (now offsets) (now lens))) (columnsOf (now ops) (now progresses) (now counts) (now interruptions))) ⌝ }
-    ensures { λ r. ⌜ rows r (columnsOf (now (ops .exit)) (now (progresses .exit)) (now (counts .exit)) (now (interruptions .exit))) ≡ laidFrom at (laterOf geometry (now (kinds .entry)) (now (offsets .entry)) (now (lens .entry))) (columnsOf (now (ops .entry)) (now (progresses .entry)) (now (counts .entry)) (now (interruptions .entry))) ⌝ }
-{
-    let times = lone_count(kinds.len());
-    let reset = write_part(
-        times,
-        kinds,
-        offsets,
-        lens,
-        geometry,
-        Interruption::Watchdog,
-        at,
-        ops,
-        progresses,
-        counts,
-        interruptions,
-    );
-    write_groups(
-        kinds,
-        offsets,
-        lens,
-        geometry,
-        Interruption::Failure,
-        reset,
-        ops,
-        progresses,
-        counts,
-        interruptions,
-    )
-}
-
-// Writes the points of a list that is not refused: the opening point and those of power loss, and then the others.
-fn write_all(
-    kinds: &[u8],
-    offsets: &[u32],
-    lens: &[u32],
-    geometry: Geometry,
-    ops: &mut [u32],
-    progresses: &mut [u8],
-    counts: &mut [u32],
-    interruptions: &mut [u8],
-) -> usize
-    requires { ⌜ (Sound geometry (now kinds) (now offsets) (now lens)) × (Room (length (pointsOf geometry (now kinds) (now offsets) (now lens))) (columnsOf (now ops) (now progresses) (now counts) (now interruptions))) ⌝ }
-    ensures { λ r. ⌜ rows r (columnsOf (now (ops .exit)) (now (progresses .exit)) (now (counts .exit)) (now (interruptions .exit))) ≡ laidFrom 0 (pointsOf geometry (now (kinds .entry)) (now (offsets .entry)) (now (lens .entry))) (columnsOf (now (ops .entry)) (now (progresses .entry)) (now (counts .entry)) (now (interruptions .entry))) ⌝ }
-{
-    let lost = write_part(
-        1,
-        kinds,
-        offsets,
-        lens,
-        geometry,
-        Interruption::PowerLoss,
-        0,
-        ops,
-        progresses,
-        counts,
-        interruptions,
-    );
-    write_later(
-        kinds,
-        offsets,
-        lens,
-        geometry,
-        lost,
-        ops,
-        progresses,
-        counts,
-        interruptions,
-    )
-}
-
-// Writes every crash point, in order, a row for each: the operation's index, the progress (0 none, 1 a byte count,
-// 2 whole), the byte count (0 where there is none) and the interruption (0 power loss, 1 watchdog, 2 failure).
-// Cells past the last row are left alone. A refusal leaves every column as it was.
-pub fn injections(
-    kinds: &[u8],
-    offsets: &[u32],
-    lens: &[u32],
-    geometry: Geometry,
-    ops: &mut [u32],
-    progresses: &mut [u8],
-    counts: &mut [u32],
-    interruptions: &mut [u8],
-) -> Written
-    ensures { λ r. ⌜ listing r (columnsOf (now (ops .exit)) (now (progresses .exit)) (now (counts .exit)) (now (interruptions .exit))) ≡ listed geometry (now (kinds .entry)) (now (offsets .entry)) (now (lens .entry)) (columnsOf (now (ops .entry)) (now (progresses .entry)) (now (counts .entry)) (now (interruptions .entry))) ⌝ }
-{
-    let room = ops.len();
-    let equal = (room == progresses.len()) & (room == counts.len()) & (room == interruptions.len());
-    let refused = refuse(kinds, offsets, lens, geometry, equal);
-    if refused != 0 {
-        return Written::NotWritten(refused);
-    }
-    let points = count(kinds, offsets, lens, geometry);
-    if (room as u64) < points {
-        return Written::NotWritten(13);
-    }
-    let rows = write_all(
-        kinds,
-        offsets,
-        lens,
-        geometry,
-        ops,
-        progresses,
-        counts,
-        interruptions,
-    );
-    Written::All(rows)
 }

@@ -12,7 +12,7 @@ use inject::Found;
 use inject::Injection;
 use inject::Interruption;
 use inject::Progress;
-use inject::Written;
+use inject_columns::Written;
 use libc::STDOUT_FILENO;
 use storage::Geometry;
 
@@ -133,7 +133,7 @@ fn print_columns(kinds: &[u8], offsets: &[u32], lens: &[u32], geometry: Geometry
     let mut progresses = [0u8; 64];
     let mut counts = [0u32; 64];
     let mut interruptions = [0u8; 64];
-    let written = inject::injections(
+    let written = inject_columns::injections(
         kinds,
         offsets,
         lens,

@@ -15,10 +15,11 @@ use Rattle.inject.specs.declared.Counted.{Counted}
 use Rattle.inject.specs.declared.Counted.the-variants.{Points, NotCounted}
 use Rattle.inject.specs.declared.Found.{Found}
 use Rattle.inject.specs.declared.Found.the-variants.{Point, NotFound}
-use Rattle.inject.specs.declared.Written.{Written}
-use Rattle.inject.specs.declared.Written.the-variants.{All, NotWritten}
+use Rattle.inject_columns.specs.declared.Written.{Written}
+use Rattle.inject_columns.specs.declared.Written.the-variants.{All, NotWritten}
 use Rattle.inject.specs.Points.{opening}
-use Rattle.inject.specs.Answers.{pointsOf, countTest, countedBy, counted, placeTest, foundBy, found, PointColumns, writeTest, written, listing, listedBy, listed}
+use Rattle.inject.specs.Answers.{pointsOf, countTest, countedBy, counted, placeTest, foundBy, found}
+use Rattle.inject_columns.specs.Answers.{PointColumns, writeTest, written, listing, listedBy, listed}
 use Rattle.inject_exported.specs.Inject.{countOver, pointIn, pointOver, columnsOver, rowsOver}
 
 -- ---- how many, over the number n of the tests

@@ -7,7 +7,8 @@ use lib.ListN.{length, getD, set}
 use Rattle.storage.specs.declared.Geometry.{Geometry}
 use Rattle.inject.specs.declared.Injection.{Injection}
 use Rattle.inject.specs.Points.{opening}
-use Rattle.inject.specs.Answers.{pointsOf, countTest, placeTest, writeTest, PointColumns, written, progressCode, countCode, interruptionCode}
+use Rattle.inject.specs.Answers.{pointsOf, countTest, placeTest, progressCode, countCode, interruptionCode}
+use Rattle.inject_columns.specs.Answers.{writeTest, PointColumns, written}
 
 -- a list that is not refused has the number of its crash points put over what stood there
 abbrev pub countOver : Geometry → (kinds offsets lens : List ℕ) → (old : ℕ) → ℕ

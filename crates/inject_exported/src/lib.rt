@@ -5,7 +5,8 @@
 // slice crosses as a pointer, then a length; a reference as a pointer.
 ghost use mathlib.Core.Path.{_≡_};
 ghost use Rattle.storage.specs.Geometry.{geometryOf};
-ghost use Rattle.inject.specs.Answers.{countTest, placeTest, writeTest, columnsOf, progressCode, countCode, interruptionCode};
+ghost use Rattle.inject.specs.Answers.{countTest, placeTest, progressCode, countCode, interruptionCode};
+ghost use Rattle.inject_columns.specs.Answers.{writeTest, columnsOf};
 ghost use Rattle.inject_exported.specs.Inject.{countOver, pointIn, pointOver, columnsOver, rowsOver};
 use basics::store_u64;
 use inject::Counted;
@@ -13,7 +14,7 @@ use inject::Found;
 use inject::Injection;
 use inject::Interruption;
 use inject::Progress;
-use inject::Written;
+use inject_columns::Written;
 use storage::Geometry;
 
 // A kind of progress as in the column of them: 0 none, 1 a byte count, 2 whole.
@@ -152,7 +153,7 @@ pub extern "C" fn inject_all(
         program_size: program,
         read_size: read,
     };
-    let written = inject::injections(
+    let written = inject_columns::injections(
         kinds,
         offsets,
         lens,

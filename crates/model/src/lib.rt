@@ -49,7 +49,7 @@ pub enum Place {
 }
 
 // Whether no code of a column is above `top`. Every code is read: with no way out of the loop it is compiled to vectors.
-fn all_up_to(codes: &[u8], top: u8) -> bool
+pub fn all_up_to(codes: &[u8], top: u8) -> bool
     ensures { λ r. ⌜ r ≡ allUpTo top (now (codes .entry)) ⌝ }
 {
     let mut sound = true;

@@ -4,6 +4,7 @@ use mathlib.Core.Path.{_≡_, refl, ap, sym, _∙_}
 use mathlib.Core.Bool.{Bool, true, false, cond, not, _&&_}
 use mathlib.Core.List.{List, [], _∷_, _++_}
 use Prim.Native.Nat.{ℕ, suc, _+_, _-_, _*_, _/_, _%_, _≤_, _<_}
+use native.Mathlib.Nat.{mul-le-mul, mul-pos}
 use native.Mathlib.Numerals.{add-one}
 use native.Mathlib.Omega.{arith}
 use lib.ListN.{length, getD, take, drop, drop-of-length-le}
@@ -36,6 +37,24 @@ opened s from k e h p q =
     }
 
 -- ---- one field: `N` and `S`
+
+-- the product is 0 for these two letters alone, and small
+pub product-small : (m n : ℕ) → m % 256 * (n % 256) ≤ 65025
+product-small m n = let a : m % 256 ≤ 255 = omega arith in let b : n % 256 ≤ 255 = omega arith in mul-le-mul a b
+
+product-by : (k : ℕ) → k < 256 → (t u : Bool) → eqb k 78 ≡ t → eqb k 83 ≡ u → not (eqb ((k + 178) % 256 * ((k + 173) % 256)) 0) ≡ (not t && not u)
+product-by k h true u p q = rw (eqb-true k 78 p)
+product-by k h false true p q = rw (eqb-true k 83 q)
+product-by k h false false p q =
+    let n = eqb-false k 78 p in
+    let m = eqb-false k 83 q in
+    let a : 0 < (k + 178) % 256 = omega arith in
+    let b : 0 < (k + 173) % 256 = omega arith in
+    let ab : 0 < (k + 178) % 256 * ((k + 173) % 256) = mul-pos a b in
+    rw (ne-eqb ((k + 178) % 256 * ((k + 173) % 256)) 0 (λ e. omega arith))
+
+pub product-tells : (k : ℕ) → k < 256 → not (eqb ((k + 178) % 256 * ((k + 173) % 256)) 0) ≡ (not (eqb k 78) && not (eqb k 83))
+product-tells k h = product-by k h (eqb k 78) (eqb k 83) refl refl
 
 pub neither : (t u : Bool) → (not t && not u) ≡ true → (t ≡ false) × (u ≡ false)
 neither true u e = absurd (let z : _≡_ {A = ℕ} 0 1 = cc in omega arith)

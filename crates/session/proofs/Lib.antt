@@ -1,5 +1,4 @@
 -- Laws of the session's definitions, each under what it is about.
 pub mod Refusals
-pub mod Calls
-pub mod Fetches
 pub mod Laws
+pub mod Writing

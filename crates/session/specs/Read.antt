@@ -8,7 +8,7 @@ use Rattle.basics.specs.Tests.{firstOf}
 use Rattle.basics.specs.Parts.{part}
 use Rattle.storage.specs.Geometry.{geometryTest}
 use Rattle.storage.specs.Span.{readTest}
-use Rattle.device.specs.Calls.{mediaTest, bufferTest}
+use Rattle.device_calls.specs.Calls.{mediaTest, bufferTest}
 use Rattle.landing.specs.Ending.{stopNumber}
 use Rattle.session.specs.declared.Told.{Told}
 use Rattle.session.specs.declared.Counters.{Counters}

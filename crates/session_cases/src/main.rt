@@ -160,7 +160,7 @@ fn step(
         print(erased.answer, b" ");
         return erased.counters;
     }
-    let ordered = session::barrier(
+    let ordered = session_calls::barrier(
         told,
         counters,
         kinds,
@@ -199,7 +199,7 @@ fn one_case(place: usize)
     print(kind, b" ");
     print(count, b" ");
     let told = told_of(op, progress_of(kind, count), interruption_of(cause));
-    let begun = session::start(
+    let begun = session_calls::start(
         told,
         &mut media,
         &copy,

@@ -6,7 +6,6 @@ use Prim.Native.Nat.{ℕ, _+_, _-_, _≤_}
 use native.Mathlib.Nat.{le-refl}
 use lib.ListN.{length}
 use lib.Dec.{eqb}
-use borrow.Author.Tests.{eq-eqb, ne-eqb}
 use Rattle.basics.specs.Tests.{flag, firstOf}
 use Rattle.basics.proofs.Tests.{firstOf-next, firstOf-zero}
 use Rattle.storage.specs.Span.{eraseTest}
@@ -18,12 +17,13 @@ use Rattle.session.specs.declared.Told.{Told}
 use Rattle.session.specs.declared.Armed.{Armed}
 use Rattle.session.specs.declared.Armed.the-variants.{Nothing, At}
 use Rattle.session.specs.declared.Counters.{Counters}
+use Rattle.session.specs.declared.Plan.{Plan}
 use Rattle.session.specs.Log.{Log, logged}
 use Rattle.session.specs.Tests.{sizeTest, logTest, operationTest}
 use Rattle.session.specs.Armed.{armedOn, eraseLands}
-use Rattle.session.specs.Written.{written}
-use Rattle.session_erase.specs.declared.Plan.{Plan}
-use Rattle.session_erase.specs.Erase.{eraseNumber, erasePlan, Landing, eraseLanding, eraseCall}
+use Rattle.session.specs.Written.{Landing, written}
+use Rattle.session.proofs.Writing.{call-refused, call-taken, landed-so}
+use Rattle.session_erase.specs.Erase.{eraseNumber, erasePlan, eraseLanding, eraseEntry, eraseCall}
 
 -- the tests, two at a time
 pub erase-tests : (t : Told) (c : Counters) (offset len media copy log sizes span full stop last mid next r : ℕ)
@@ -79,7 +79,7 @@ module _ (t : Told) (c : Counters) (offset len : ℕ) (media copy : List ℕ) (l
 
   pub erase-refused : (n ≡ 0 → ⊥) → written (record { answer = n; counters = c }) media copy l ≡ eraseCall t c offset len media copy l
   unfolding eraseCall
-  erase-refused h = simp (← number, ne-eqb n 0 h)
+  erase-refused h = call-refused c media copy l _ _ n number h
 
   pub erase-taken : n ≡ 0 → (plan : Plan) (media′ copy′ : List ℕ) (changed : Bool) (f g : ℕ) (l′ : Log)
       → plan ≡ erasePlan t c offset len
@@ -89,7 +89,6 @@ module _ (t : Told) (c : Counters) (offset len : ℕ) (media copy : List ℕ) (l
       → written (plan .reply) media′ copy′ l′ ≡ eraseCall t c offset len media copy l
   unfolding eraseCall
   erase-taken z plan media′ copy′ changed f g l′ a d b h q =
-      let m : media′ ≡ eraseLanding offset len (plan .landed) media copy .media = ap (λ (x : Landing). x .media) d in
-      let k : copy′ ≡ eraseLanding offset len (plan .landed) media copy .copy = ap (λ (x : Landing). x .copy) d in
-      let y : changed ≡ eraseLanding offset len (plan .landed) media copy .changed = ap (λ (x : Landing). x .changed) d in
-      simp (← number, eq-eqb n 0 z, q, b, h, m, k, y, a)
+      call-taken c media copy l _ _ n number z _
+      (landed-so c l l′ (eraseEntry offset len) (λ (k : ℕ). eraseLanding offset len k media copy) plan (erasePlan t c offset len)
+      (record { media = media′; copy = copy′; changed = changed }) _ a d (simp (b, h)) q)

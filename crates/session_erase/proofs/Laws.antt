@@ -5,21 +5,17 @@
 --     unarmed-erase                 with nothing armed it lands whole, answers 0, and the session runs on
 --     erase-outside                 the media outside its span are untouched, refused or taken, cut or not
 -- Assumes nothing.
-use mathlib.Core.Path.{_≡_, refl, sym, ap, _∙_}
+use mathlib.Core.Path.{_≡_, refl}
 use mathlib.Core.Logic.{_⊎_, inl, inr}
 use mathlib.Core.List.{List, [], _∷_}
-use Prim.Native.Nat.{ℕ, zero, suc, _+_, _≤_}
-use native.Mathlib.Nat.{suc-ne-zero}
+use Prim.Native.Nat.{ℕ, _+_, _≤_}
 use native.Mathlib.Omega.{arith}
 use lib.ListN.{length}
-use lib.Dec.{eqb}
-use borrow.Author.Tests.{eq-eqb, ne-eqb}
 use Rattle.basics.specs.Parts.{part}
 use Rattle.basics.proofs.Tests.{firstOf-zero}
 use Rattle.storage.specs.Span.{eraseTest}
 use Rattle.device.proofs.Erasing.{erased-outside}
 use Rattle.landing.specs.declared.Stop.the-variants.{Running}
-use Rattle.landing.specs.declared.Ending.{Ending}
 use Rattle.landing.specs.Ending.{stopNumber}
 use Rattle.session.specs.declared.Told.{Told}
 use Rattle.session.specs.declared.Armed.{Armed}
@@ -27,10 +23,9 @@ use Rattle.session.specs.declared.Armed.the-variants.{Nothing}
 use Rattle.session.specs.declared.Counters.{Counters}
 use Rattle.session.specs.Log.{Log}
 use Rattle.session.specs.Tests.{sizeTest, logTest, operationTest}
-use Rattle.session.specs.Armed.{armedOn, eraseLands, writeReply}
+use Rattle.session.specs.Armed.{armedOn, eraseLands}
 use Rattle.session.specs.Written.{Written, written}
-use Rattle.session.proofs.Refusals.{operation-room}
-use Rattle.session.proofs.Laws.{next-count, unarmed-ends}
+use Rattle.session.proofs.Writing.{unarmed-plan, plan-counts, refuses, takes, either}
 use Rattle.session_erase.specs.Erase.{eraseNumber, eraseNumberOf, erasePlan, eraseLanding, eraseTaken, eraseCall}
 use Rattle.session_erase.proofs.Calls.{lands-le}
 
@@ -41,23 +36,23 @@ lands-whole a len block e = rw e
 module _ (t : Told) (c : Counters) (offset len : ℕ) where
   pub unarmed-erase : armedOn (t .armed) (c .operations) ≡ Nothing
       → (erasePlan t c offset len .landed ≡ len) × (erasePlan t c offset len .reply .answer ≡ 0) × (erasePlan t c offset len .reply .counters .stop ≡ Running)
-  unfolding erasePlan writeReply
+  unfolding erasePlan
   unarmed-erase e =
       let a = armedOn (t .armed) (c .operations) in
       let n = eraseLands a len (t .geometry .«erase_size») in
-      let w = unarmed-ends a (eqb n len) e in
-      (lands-whole a len (t .geometry .«erase_size») e, ap (λ (x : Ending). x .answer) w, ap (λ (x : Ending). x .stop) w)
+      let w = unarmed-plan c a offset len n e in
+      (lands-whole a len (t .geometry .«erase_size») e, w .0, w .1)
 
   module _ (media copy : List ℕ) (l : Log) where
     pub erase-refuses : (eraseNumberOf t c offset len media copy l ≡ 0 → ⊥)
         → eraseCall t c offset len media copy l ≡ written (record { answer = eraseNumberOf t c offset len media copy l; counters = c }) media copy l
     unfolding eraseCall
-    erase-refuses h = simp (ne-eqb (eraseNumberOf t c offset len media copy l) 0 h)
+    erase-refuses h = refuses c media copy l _ (eraseNumberOf t c offset len media copy l) h
 
     pub erase-takes : eraseNumberOf t c offset len media copy l ≡ 0
         → eraseCall t c offset len media copy l ≡ eraseTaken c offset len (erasePlan t c offset len) media copy l
     unfolding eraseCall
-    erase-takes e = simp (eq-eqb (eraseNumberOf t c offset len media copy l) 0 e)
+    erase-takes e = takes c media copy l _ (eraseNumberOf t c offset len media copy l) e
 
     -- the tests of a taken erase
     passed : eraseNumberOf t c offset len media copy l ≡ 0 → (stopNumber (c .stop) ≡ 0) × (operationTest (c .operations) ≡ 0)
@@ -76,12 +71,14 @@ module _ (t : Told) (c : Counters) (offset len : ℕ) where
     erase-stopped h e = h (passed e .0)
 
     pub erase-counts : eraseNumberOf t c offset len media copy l ≡ 0 → erasePlan t c offset len .reply .counters .operations ≡ c .operations + 1
-    unfolding erasePlan writeReply
-    erase-counts e = next-count (c .operations) (operation-room (c .operations) (passed e .1))
+    unfolding erasePlan
+    erase-counts e = plan-counts c _ offset len _ (passed e .1)
 
     pub erase-outside : (o k : ℕ) → (o + k ≤ offset) ⊎ (offset + len ≤ o) → part (eraseCall t c offset len media copy l .media) o k ≡ part media o k
-    unfolding erasePlan eraseLanding
-    erase-outside o k h = go (eraseNumberOf t c offset len media copy l) refl
+    unfolding erasePlan eraseLanding eraseCall
+    erase-outside o k h =
+        either c media copy l _ (eraseNumberOf t c offset len media copy l) (λ (w : Written). part (w .media) o k) (part media o k)
+        (erased-outside media offset landed o k (wide h)) refl
       where
         landed : ℕ
         landed = eraseLands (armedOn (t .armed) (c .operations)) len (t .geometry .«erase_size»)
@@ -89,7 +86,3 @@ module _ (t : Told) (c : Counters) (offset len : ℕ) where
         wide : (o + k ≤ offset) ⊎ (offset + len ≤ o) → (o + k ≤ offset) ⊎ (offset + landed ≤ o)
         wide (inl p) = inl p
         wide (inr p) = inr (omega (arith, lands-le (armedOn (t .armed) (c .operations)) len (t .geometry .«erase_size»)))
-
-        go : (n : ℕ) → eraseNumberOf t c offset len media copy l ≡ n → part (eraseCall t c offset len media copy l .media) o k ≡ part media o k
-        go zero e = ap (λ (w : Written). part (w .media) o k) (erase-takes e) ∙ erased-outside media offset landed o k (wide h)
-        go (suc n) e = ap (λ (w : Written). part (w .media) o k) (erase-refuses (λ z. suc-ne-zero n (sym e ∙ z)))

@@ -1,5 +1,5 @@
 -- Document 01, "session.rs (974)": what an erase answers, and what it leaves. Definitions only; assumes nothing.
-use mathlib.Core.Bool.{Bool, cond}
+use mathlib.Core.Bool.{Bool}
 use mathlib.Core.List.{List, [], _∷_}
 use Prim.Native.Nat.{ℕ, _+_, _-_}
 use lib.ListN.{length}
@@ -11,13 +11,12 @@ use Rattle.landing.specs.Ending.{stopNumber}
 use Rattle.session.specs.declared.Told.{Told}
 use Rattle.session.specs.declared.Armed.{Armed}
 use Rattle.session.specs.declared.Counters.{Counters}
-use Rattle.session.specs.declared.Called.{Called}
 use Rattle.session.specs.declared.Entry.{Entry}
-use Rattle.session.specs.Log.{Log, logged}
+use Rattle.session.specs.declared.Plan.{Plan}
+use Rattle.session.specs.Log.{Log}
 use Rattle.session.specs.Tests.{sizeTest, logTest, operationTest}
-use Rattle.session.specs.Armed.{armedOn, eraseLands, writeReply}
-use Rattle.session.specs.Written.{Written, written}
-use Rattle.session_erase.specs.declared.Plan.{Plan}
+use Rattle.session.specs.Armed.{armedOn, eraseLands}
+use Rattle.session.specs.Written.{plannedBy, Landing, Written, landedSo, writtenBy}
 
 -- "A session call first tests the lengths lent to it (7, 12, 13), then stopped, then geometry, then 20, then 27.", over the lengths
 -- of media and copy; `log` is the number of the log's columns
@@ -31,23 +30,13 @@ eraseNumber t c offset len media copy log =
     ∷ operationTest (c .operations)
     ∷ [])
 
--- how much lands, and the reply: what did not land starts behind what did
-abbrev pub planned : Counters → Armed → (offset len landed : ℕ) → Plan
-planned c a offset len landed = record { landed = landed; reply = writeReply c a (eqb landed len) (offset + landed) (len - landed) }
-
-abbrev pub plannedBy : Counters → Armed → (offset len block : ℕ) → Plan
-plannedBy c a offset len block = planned c a offset len (eraseLands a len block)
-
+-- how much lands, and the reply
 unfoldable pub erasePlan : Told → Counters → (offset len : ℕ) → Plan
-erasePlan t c offset len = plannedBy c (armedOn (t .armed) (c .operations)) offset len (t .geometry .«erase_size»)
+erasePlan t c offset len =
+    plannedBy c (armedOn (t .armed) (c .operations)) offset len (λ (a : Armed). eraseLands a len (t .geometry .«erase_size»))
 
 -- media and copy after, and whether a cell of the media changed: what lands becomes 0xFF on the media, and what does not becomes
 -- 0xFF on the copy, "what the write would have left"
-pub record Landing : Type 0 where
-  pub media : List ℕ
-  pub copy : List ℕ
-  pub changed : Bool
-
 unfoldable pub eraseLanding : (offset len landed : ℕ) → (media copy : List ℕ) → Landing
 eraseLanding offset len landed media copy = record {
   media = erased media offset landed;
@@ -60,13 +49,9 @@ abbrev pub eraseEntry : (offset len : ℕ) (changed : Bool) (answer : ℕ) → E
 eraseEntry offset len changed answer =
     record { kind = 1; offset = offset; len = len; digest = 0; changed = flag changed; answered = flag (eqb answer 0) }
 
-abbrev pub landedSo : Counters → (offset len : ℕ) → Called → Landing → Log → Written
-landedSo c offset len r d l =
-    written r (d .media) (d .copy) (logged l (c .operations) (eraseEntry offset len (d .changed) (r .answer)))
-
 -- an erase that is taken
 abbrev pub eraseTaken : Counters → (offset len : ℕ) → Plan → (media copy : List ℕ) → Log → Written
-eraseTaken c offset len p media copy l = landedSo c offset len (p .reply) (eraseLanding offset len (p .landed) media copy) l
+eraseTaken c offset len p media copy l = landedSo c (eraseEntry offset len) (p .reply) (eraseLanding offset len (p .landed) media copy) l
 
 abbrev pub eraseNumberOf : Told → Counters → (offset len : ℕ) → (media copy : List ℕ) → Log → ℕ
 eraseNumberOf t c offset len media copy l = eraseNumber t c offset len (length media) (length copy) (logTest l)
@@ -74,6 +59,5 @@ eraseNumberOf t c offset len media copy l = eraseNumber t c offset len (length m
 -- a call that its tests refuse answers their number and changes nothing
 unfoldable pub eraseCall : Told → Counters → (offset len : ℕ) → (media copy : List ℕ) → Log → Written
 eraseCall t c offset len media copy l =
-    cond (eqb (eraseNumberOf t c offset len media copy l) 0)
+    writtenBy (eraseNumberOf t c offset len media copy l) c media copy l
     (eraseTaken c offset len (erasePlan t c offset len) media copy l)
-    (written (record { answer = eraseNumberOf t c offset len media copy l; counters = c }) media copy l)

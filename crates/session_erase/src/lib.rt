@@ -6,20 +6,15 @@ use session::Armed;
 use session::Called;
 use session::Counters;
 use session::Entry;
+use session::Plan;
 use session::Told;
 ghost use mathlib.Core.Path.{_≡_};
 ghost use Prim.Native.Nat.{_+_, _^_, _<_, _≤_};
 ghost use lib.ListN.{length};
 ghost use Rattle.session.specs.Log.{logOf};
 ghost use Rattle.session.specs.Armed.{eraseLands};
-ghost use Rattle.session.specs.Written.{written};
-ghost use Rattle.session_erase.specs.Erase.{eraseNumber, erasePlan, Landing, eraseLanding, eraseCall};
-
-// What an erase that is not refused will do: how much of it lands, and its reply.
-struct Plan {
-    landed: u32,
-    reply: Called,
-}
+ghost use Rattle.session.specs.Written.{Landing, written};
+ghost use Rattle.session_erase.specs.Erase.{eraseNumber, erasePlan, eraseLanding, eraseCall};
 
 // The number that refuses an erase, over the lengths lent; `log` is that of the log's columns.
 fn erase_refusal(
@@ -64,14 +59,7 @@ fn erase_plan(told: Told, counters: Counters, offset: u32, len: u32) -> Plan
     let geometry = told.geometry;
     let armed = session::armed_for(all, counters.operations);
     let landed = erase_lands(armed, len, geometry.erase_size);
-    let reply = session::write_reply(
-        counters,
-        armed,
-        landed == len,
-        offset + landed,
-        len - landed,
-    );
-    Plan { landed, reply }
+    session::planned(counters, armed, len, landed, offset + landed)
 }
 
 // Erases what lands on the media and what does not on the copy. Tells whether a cell of the media changed.

@@ -3,7 +3,6 @@
 --     start-fresh, start-refused               a start
 --     program-told, erase-told, barrier-told   the operations
 --     read-told                                a read
---     marks-told                               the marks: one law, over what the call was to leave
 -- Assumes nothing.
 use mathlib.Core.Path.{_≡_, sym, ap, _∙_}
 use mathlib.Core.List.{List}
@@ -16,12 +15,12 @@ use Rattle.session.specs.declared.Started.the-variants.{Fresh, NotStarted}
 use Rattle.session.specs.Log.{Log, Marks}
 use Rattle.session.specs.Start.{Opened, opened, started}
 use Rattle.session.specs.Barrier.{Ordered, ordered, barriered}
-use Rattle.session.specs.Read.{Fetched, fetched, readBy}
-use Rattle.session.specs.Marks.{Noted, noted}
+use Rattle.session.specs.Read.{fetched, readBy}
 use Rattle.session.specs.Written.{Written, written}
 use Rattle.session_erase.specs.Erase.{eraseCall}
 use Rattle.session_program.specs.Program.{programCall}
-use Rattle.session_exported.specs.Session.{countersIn, startLeft, startLeftBy, openedOver, writeLeft, writtenOver, barrierLeft, orderedOver, markLeft, notedOver}
+use Rattle.session_numbers.specs.Numbers.{countersIn}
+use Rattle.session_exported.specs.Session.{startLeft, startLeftBy, openedOver, writeLeft, writtenOver, barrierLeft, orderedOver}
 
 module _ (given t : Told) (same : given ≡ t) where
   -- ---- a start
@@ -80,12 +79,3 @@ module _ (given t : Told) (same : given ≡ t) where
       → fetched answer left ≡ readBy t c media offset buffer
   read-told before c as-before media offset buffer answer left told =
       told ∙ ap (λ (u : Told). readBy u before media offset buffer) same ∙ ap (λ (v : Counters). readBy t v media offset buffer) as-before
-
--- ---- the marks
-
-pub marks-told : (call : Counters → Noted) (before c : Counters) → before ≡ c → (reply : Called) (out : Marks) (state left : List ℕ)
-    → noted reply out ≡ call before
-    → left ≡ countersIn (reply .counters) state
-    → markLeft (reply .answer) left out ≡ notedOver state (call c)
-marks-told call before c as-before reply out state left told kept =
-    ap (λ (s : List ℕ). markLeft (reply .answer) s out) kept ∙ ap (λ (n : Noted). notedOver state n) (told ∙ ap call as-before)

@@ -13,16 +13,17 @@ use Rattle.basics.specs.Parts.{part, overlaid}
 use Rattle.basics.proofs.Parts.{length-part}
 use Rattle.device.specs.declared.Postimage.{Postimage}
 use Rattle.device.specs.Media.{Applied, applied, programmed, postimage, anyChanged}
-use Rattle.device.specs.Calls.{Copied, copied}
+use Rattle.device.specs.Answers.{Copied, copied}
 use Rattle.device.proofs.Cells.{length-anded}
 use Rattle.landing.proofs.Bounds.{program-landed-le}
 use Rattle.session.specs.declared.Told.{Told}
 use Rattle.session.specs.declared.Armed.{Armed}
 use Rattle.session.specs.declared.Armed.the-variants.{Nothing, At}
 use Rattle.session.specs.declared.Counters.{Counters}
+use Rattle.session.specs.declared.Plan.{Plan}
 use Rattle.session.specs.Armed.{armedOn, programLands}
-use Rattle.session_program.specs.declared.Plan.{Plan}
-use Rattle.session_program.specs.Program.{programPlan, Landing, programLanding}
+use Rattle.session.specs.Written.{Landing}
+use Rattle.session_program.specs.Program.{programPlan, programLanding}
 
 -- no more lands than the length
 pub lands-le : (a : Armed) (len unit : ℕ) → programLands a len unit ≤ len

@@ -5,20 +5,16 @@
 --     unarmed-program                 with nothing armed it lands whole, answers 0, and the session runs on
 --     program-outside                 the media outside its span are untouched, refused or taken, cut or not
 -- Assumes nothing.
-use mathlib.Core.Path.{_≡_, refl, sym, ap, _∙_}
+use mathlib.Core.Path.{_≡_, refl}
 use mathlib.Core.Logic.{_⊎_, inl, inr}
 use mathlib.Core.List.{List, [], _∷_}
-use Prim.Native.Nat.{ℕ, zero, suc, _+_, _≤_}
-use native.Mathlib.Nat.{suc-ne-zero}
+use Prim.Native.Nat.{ℕ, _+_, _≤_}
 use native.Mathlib.Omega.{arith}
 use lib.ListN.{length, take, length-take}
-use lib.Dec.{eqb}
-use borrow.Author.Tests.{eq-eqb, ne-eqb}
 use Rattle.basics.specs.Parts.{part}
 use Rattle.basics.proofs.Tests.{firstOf-zero}
 use Rattle.device.proofs.Programming.{programmed-outside}
 use Rattle.landing.specs.declared.Stop.the-variants.{Running}
-use Rattle.landing.specs.declared.Ending.{Ending}
 use Rattle.landing.specs.Ending.{stopNumber}
 use Rattle.session.specs.declared.Told.{Told}
 use Rattle.session.specs.declared.Armed.{Armed}
@@ -26,10 +22,9 @@ use Rattle.session.specs.declared.Armed.the-variants.{Nothing}
 use Rattle.session.specs.declared.Counters.{Counters}
 use Rattle.session.specs.Log.{Log}
 use Rattle.session.specs.Tests.{sizeTest, logTest, operationTest}
-use Rattle.session.specs.Armed.{armedOn, programLands, writeReply}
+use Rattle.session.specs.Armed.{armedOn, programLands}
 use Rattle.session.specs.Written.{Written, written}
-use Rattle.session.proofs.Refusals.{operation-room}
-use Rattle.session.proofs.Laws.{next-count, unarmed-ends}
+use Rattle.session.proofs.Writing.{unarmed-plan, plan-counts, refuses, takes, either}
 use Rattle.session_program.specs.Program.{spanNumber, bitTest, programNumber, programNumberOf, programPlan, programLanding, programTaken, programCall}
 
 -- with nothing armed all of it lands
@@ -39,23 +34,23 @@ lands-whole a len block e = rw e
 module _ (t : Told) (c : Counters) (offset : ℕ) where
   pub unarmed-program : (len : ℕ) → armedOn (t .armed) (c .operations) ≡ Nothing
       → (programPlan t c offset len .landed ≡ len) × (programPlan t c offset len .reply .answer ≡ 0) × (programPlan t c offset len .reply .counters .stop ≡ Running)
-  unfolding programPlan writeReply
+  unfolding programPlan
   unarmed-program len e =
       let a = armedOn (t .armed) (c .operations) in
       let n = programLands a len (t .geometry .«program_size») in
-      let w = unarmed-ends a (eqb n len) e in
-      (lands-whole a len (t .geometry .«program_size») e, ap (λ (x : Ending). x .answer) w, ap (λ (x : Ending). x .stop) w)
+      let w = unarmed-plan c a offset len n e in
+      (lands-whole a len (t .geometry .«program_size») e, w .0, w .1)
 
   module _ (bytes media copy : List ℕ) (l : Log) where
     pub program-refuses : (programNumberOf t c offset bytes media copy l ≡ 0 → ⊥)
         → programCall t c offset bytes media copy l ≡ written (record { answer = programNumberOf t c offset bytes media copy l; counters = c }) media copy l
     unfolding programCall
-    program-refuses h = simp (ne-eqb (programNumberOf t c offset bytes media copy l) 0 h)
+    program-refuses h = refuses c media copy l _ (programNumberOf t c offset bytes media copy l) h
 
     pub program-takes : programNumberOf t c offset bytes media copy l ≡ 0
         → programCall t c offset bytes media copy l ≡ programTaken c offset bytes (programPlan t c offset (length bytes)) media copy l
     unfolding programCall
-    program-takes e = simp (eq-eqb (programNumberOf t c offset bytes media copy l) 0 e)
+    program-takes e = takes c media copy l _ (programNumberOf t c offset bytes media copy l) e
 
     -- the tests of a taken program
     passed : programNumberOf t c offset bytes media copy l ≡ 0 → (stopNumber (c .stop) ≡ 0) × (operationTest (c .operations) ≡ 0)
@@ -76,12 +71,14 @@ module _ (t : Told) (c : Counters) (offset : ℕ) where
     program-stopped h e = h (passed e .0)
 
     pub program-counts : programNumberOf t c offset bytes media copy l ≡ 0 → programPlan t c offset (length bytes) .reply .counters .operations ≡ c .operations + 1
-    unfolding programPlan writeReply
-    program-counts e = next-count (c .operations) (operation-room (c .operations) (passed e .1))
+    unfolding programPlan
+    program-counts e = plan-counts c _ offset (length bytes) _ (passed e .1)
 
     pub program-outside : (o k : ℕ) → (o + k ≤ offset) ⊎ (offset + length bytes ≤ o) → part (programCall t c offset bytes media copy l .media) o k ≡ part media o k
-    unfolding programPlan programLanding
-    program-outside o k h = go (programNumberOf t c offset bytes media copy l) refl
+    unfolding programPlan programLanding programCall
+    program-outside o k h =
+        either c media copy l _ (programNumberOf t c offset bytes media copy l) (λ (w : Written). part (w .media) o k) (part media o k)
+        (programmed-outside media offset (take landed bytes) o k (wide h)) refl
       where
         landed : ℕ
         landed = programLands (armedOn (t .armed) (c .operations)) (length bytes) (t .geometry .«program_size»)
@@ -89,7 +86,3 @@ module _ (t : Told) (c : Counters) (offset : ℕ) where
         wide : (o + k ≤ offset) ⊎ (offset + length bytes ≤ o) → (o + k ≤ offset) ⊎ (offset + length (take landed bytes) ≤ o)
         wide (inl p) = inl p
         wide (inr p) = inr (rw length-take (omega arith))
-
-        go : (n : ℕ) → programNumberOf t c offset bytes media copy l ≡ n → part (programCall t c offset bytes media copy l .media) o k ≡ part media o k
-        go zero e = ap (λ (w : Written). part (w .media) o k) (program-takes e) ∙ programmed-outside media offset (take landed bytes) o k (wide h)
-        go (suc n) e = ap (λ (w : Written). part (w .media) o k) (program-refuses (λ z. suc-ne-zero n (sym e ∙ z)))

@@ -1,7 +1,7 @@
 -- Document 01, "session.rs (974)": what a program answers, and what it leaves. Definitions only; assumes nothing.
-use mathlib.Core.Bool.{Bool, _&&_, cond}
+use mathlib.Core.Bool.{Bool, _&&_}
 use mathlib.Core.List.{List, [], _∷_}
-use Prim.Native.Nat.{ℕ, _+_, _-_, _^_}
+use Prim.Native.Nat.{ℕ, _+_, _^_}
 use lib.ListN.{length, take, drop}
 use lib.Dec.{eqb, ltb}
 use Rattle.basics.specs.Tests.{flag, unless, refuseIf, firstOf}
@@ -16,13 +16,12 @@ use Rattle.digest.specs.Fnv.{digestOf}
 use Rattle.session.specs.declared.Told.{Told}
 use Rattle.session.specs.declared.Armed.{Armed}
 use Rattle.session.specs.declared.Counters.{Counters}
-use Rattle.session.specs.declared.Called.{Called}
 use Rattle.session.specs.declared.Entry.{Entry}
-use Rattle.session.specs.Log.{Log, logged}
+use Rattle.session.specs.declared.Plan.{Plan}
+use Rattle.session.specs.Log.{Log}
 use Rattle.session.specs.Tests.{sizeTest, logTest, operationTest}
-use Rattle.session.specs.Armed.{armedOn, programLands, writeReply}
-use Rattle.session.specs.Written.{Written, written}
-use Rattle.session_program.specs.declared.Plan.{Plan}
+use Rattle.session.specs.Armed.{armedOn, programLands}
+use Rattle.session.specs.Written.{plannedBy, Landing, Written, landedSo, writtenBy}
 
 -- the geometry: "the lowest number comes first, save that 6 for a buffer comes before 4 and 5", where "6 also for a buffer longer
 -- than u32"
@@ -47,23 +46,13 @@ programNumber t c offset bytes media copy log =
     ∷ operationTest (c .operations)
     ∷ [])
 
--- how many bytes land, and the reply: those that did not land start behind those that did
-abbrev pub planned : Counters → Armed → (offset len landed : ℕ) → Plan
-planned c a offset len landed = record { landed = landed; reply = writeReply c a (eqb landed len) (offset + landed) (len - landed) }
-
-abbrev pub plannedBy : Counters → Armed → (offset len unit : ℕ) → Plan
-plannedBy c a offset len unit = planned c a offset len (programLands a len unit)
-
+-- how many bytes land, and the reply
 unfoldable pub programPlan : Told → Counters → (offset len : ℕ) → Plan
-programPlan t c offset len = plannedBy c (armedOn (t .armed) (c .operations)) offset len (t .geometry .«program_size»)
+programPlan t c offset len =
+    plannedBy c (armedOn (t .armed) (c .operations)) offset len (λ (a : Armed). programLands a len (t .geometry .«program_size»))
 
 -- media and copy after, and whether a cell of the media changed: the leading bytes land, and the copy holds "what the write would
 -- have left" where the others did not
-pub record Landing : Type 0 where
-  pub media : List ℕ
-  pub copy : List ℕ
-  pub changed : Bool
-
 unfoldable pub programLanding : (offset landed : ℕ) → (bytes media copy : List ℕ) → Landing
 programLanding offset landed bytes media copy = record {
   media = programmed media offset (take landed bytes);
@@ -76,14 +65,10 @@ abbrev pub programEntry : (offset : ℕ) (bytes : List ℕ) (changed : Bool) (an
 programEntry offset bytes changed answer =
     record { kind = 0; offset = offset; len = length bytes; digest = digestOf bytes; changed = flag changed; answered = flag (eqb answer 0) }
 
-abbrev pub landedSo : Counters → (offset : ℕ) (bytes : List ℕ) → Called → Landing → Log → Written
-landedSo c offset bytes r d l =
-    written r (d .media) (d .copy) (logged l (c .operations) (programEntry offset bytes (d .changed) (r .answer)))
-
 -- a program that is taken
 abbrev pub programTaken : Counters → (offset : ℕ) (bytes : List ℕ) → Plan → (media copy : List ℕ) → Log → Written
 programTaken c offset bytes p media copy l =
-    landedSo c offset bytes (p .reply) (programLanding offset (p .landed) bytes media copy) l
+    landedSo c (programEntry offset bytes) (p .reply) (programLanding offset (p .landed) bytes media copy) l
 
 abbrev pub programNumberOf : Told → Counters → (offset : ℕ) (bytes media copy : List ℕ) → Log → ℕ
 programNumberOf t c offset bytes media copy l = programNumber t c offset bytes media (length copy) (logTest l)
@@ -91,6 +76,5 @@ programNumberOf t c offset bytes media copy l = programNumber t c offset bytes m
 -- a call that its tests refuse answers their number and changes nothing
 unfoldable pub programCall : Told → Counters → (offset : ℕ) (bytes media copy : List ℕ) → Log → Written
 programCall t c offset bytes media copy l =
-    cond (eqb (programNumberOf t c offset bytes media copy l) 0)
+    writtenBy (programNumberOf t c offset bytes media copy l) c media copy l
     (programTaken c offset bytes (programPlan t c offset (length bytes)) media copy l)
-    (written (record { answer = programNumberOf t c offset bytes media copy l; counters = c }) media copy l)

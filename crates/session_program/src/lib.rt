@@ -8,20 +8,15 @@ use session::Armed;
 use session::Called;
 use session::Counters;
 use session::Entry;
+use session::Plan;
 use session::Told;
 ghost use mathlib.Core.Path.{_≡_};
 ghost use Prim.Native.Nat.{_+_, _^_, _<_, _≤_};
 ghost use lib.ListN.{length};
 ghost use Rattle.session.specs.Log.{logOf};
 ghost use Rattle.session.specs.Armed.{programLands};
-ghost use Rattle.session.specs.Written.{written};
-ghost use Rattle.session_program.specs.Program.{spanNumber, bitTest, programNumber, programPlan, Landing, programLanding, programCall};
-
-// What a program that is not refused will do: how many of its bytes land, and its reply.
-struct Plan {
-    landed: u32,
-    reply: Called,
-}
+ghost use Rattle.session.specs.Written.{Landing, written};
+ghost use Rattle.session_program.specs.Program.{spanNumber, bitTest, programNumber, programPlan, programLanding, programCall};
 
 // The geometry's number: 1 to 3, then 6 for a buffer longer than u32, then the span's 4, 5 and 6.
 fn span_refusal(told: Told, offset: u32, bytes: usize) -> u32
@@ -47,7 +42,7 @@ fn bit_refusal(bits: OneWayBits, media: &[u8], offset: u32, bytes: &[u8]) -> u32
     match bits {
         OneWayBits::Absorbed => 0,
         OneWayBits::Rejected => {
-            if device::would_set_a_bit(media, offset, bytes) {
+            if device_questions::would_set_a_bit(media, offset, bytes) {
                 20
             } else {
                 0
@@ -101,14 +96,7 @@ fn program_plan(told: Told, counters: Counters, offset: u32, len: u32) -> Plan
     let geometry = told.geometry;
     let armed = session::armed_for(all, counters.operations);
     let landed = program_lands(armed, len, geometry.program_size);
-    let reply = session::write_reply(
-        counters,
-        armed,
-        landed == len,
-        offset + landed,
-        len - landed,
-    );
-    Plan { landed, reply }
+    session::planned(counters, armed, len, landed, offset + landed)
 }
 
 // Writes to the copy what the bytes that do not land would have left, and programs those that do. Tells whether a cell of the

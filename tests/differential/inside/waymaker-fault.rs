@@ -1,6 +1,8 @@
 //! What is `pub(crate)` in waymaker-fault, for the comparison: each function makes the one call that it is named after.
 
 use crate::device::Device;
+use crate::inject::Injection;
+use crate::session::{Run, Session};
 
 pub fn apply_program(device: &mut Device, offset: u32, src: &[u8]) -> bool {
     device.apply_program(offset, src)
@@ -24,4 +26,12 @@ pub fn differs_from(device: &Device, offset: u32, expected: &[u8]) -> bool {
 
 pub fn erase_would_change(device: &Device, offset: u32, len: u32) -> bool {
     device.erase_would_change(offset, len)
+}
+
+pub fn new(device: Device, injection: Option<Injection>) -> Session {
+    Session::new(device, injection)
+}
+
+pub fn finish(session: Session) -> Run {
+    session.finish()
 }

@@ -70,6 +70,24 @@ pub fn smaller_numbers(n: u32) -> Vec<u32> {
     found
 }
 
+/// Parts of a list to leave out: all, a half, a quarter, and so on down to one. A long list is not cut into parts that are
+/// that small, since each makes a copy.
+pub fn cuts(len: usize) -> Vec<(usize, usize)> {
+    let mut found = Vec::new();
+    let mut part = len;
+    while part > 0 && len / part <= 512 {
+        found.extend((0..len).step_by(part).map(|from| (from, (from + part).min(len))));
+        part /= 2;
+    }
+    found
+}
+
+/// A list without the cells from one place to another.
+pub fn without<T: Copy>(list: &[T], from: usize, to: usize) -> Vec<T> {
+    let (from, to) = (from.min(list.len()), to.min(list.len()));
+    [&list[..from], &list[to..]].concat()
+}
+
 /// One layer's comparison: where its inputs come from, and how many were compared.
 pub struct Comparison {
     pub random: Random,

@@ -4,6 +4,8 @@ mod common;
 mod device;
 mod inject;
 mod oracle;
+mod script;
+mod script_reader;
 mod session;
 mod storage;
 
@@ -12,7 +14,16 @@ use std::process::ExitCode;
 use std::time::Instant;
 
 /// The layers, lowest first.
-const LAYERS: &[Layer] = &[storage::LAYER, device::LAYER, inject::LAYER, oracle::LAYER, session::LAYER];
+const LAYERS: &[Layer] = &[
+    storage::LAYER,
+    device::LAYER,
+    inject::LAYER,
+    oracle::LAYER,
+    script::LAYER,
+    session::LAYER,
+    session::ledger::LAYER,
+    session::replay::LAYER,
+];
 
 /// Random inputs to each layer, where the caller does not say how many.
 const SIZE: u64 = 1_000_000;

@@ -1,7 +1,7 @@
 //! The layers `model` and `oracle` against waymaker-fault's model.rs and oracle.rs: what a ledger answers, and the verdict
 //! on a recovery, with every value.
 
-use crate::common::{self, Comparison, Difference, Input, Layer, Random, bench_row, smaller_numbers};
+use crate::common::{self, Comparison, Difference, Input, Layer, Random, bench_row, cuts, smaller_numbers, without};
 use waymaker_fault::model::{Durability, Ledger, RecordId};
 use waymaker_fault::oracle::{Breach, Recovery, verify_oracle, verify_recovery};
 
@@ -116,19 +116,6 @@ impl Columns {
         }
         found
     }
-}
-
-/// Parts of a list to leave out: all, a half, one.
-fn cuts(len: usize) -> Vec<(usize, usize)> {
-    let mut found = vec![(0, len), (len / 2, len), (0, len / 2)];
-    found.extend((0..len).map(|place| (place, place + 1)));
-    found.retain(|(from, to)| from < to);
-    found
-}
-
-fn without<T: Copy>(list: &[T], from: usize, to: usize) -> Vec<T> {
-    let (from, to) = (from.min(list.len()), to.min(list.len()));
-    [&list[..from], &list[to..]].concat()
 }
 
 /// Ids, and what each may become. It is put wherever the id stands, so that what was equal stays equal.

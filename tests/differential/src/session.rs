@@ -6,10 +6,19 @@
 //! operations changed a cell, and what was withheld are private to the Rust's session, and not compared here.
 
 use crate::common::{self, Comparison, Difference, Input, Layer, Random, bench_row, smaller_numbers};
-use waymaker_fault::device::{FaultError, OneWayBits};
+use std::cell::RefCell;
+use std::hint::black_box;
+use waymaker_fault::device::{Device, FaultError, OneWayBits};
 use waymaker_fault::inject::{Injection, Interruption, Op, Progress, injections};
+use waymaker_fault::inside;
+use waymaker_fault::model::RecordId;
 use waymaker_fault::session::{Harness, HarnessError, Session};
 use waymaker_flash::storage::{Geometry, GeometryError, StableStorage};
+
+#[path = "ledger.rs"]
+pub mod ledger;
+#[path = "replay.rs"]
+pub mod replay;
 
 pub const LAYER: Layer = Layer { name: "session", compare, bench, sample };
 
@@ -44,6 +53,10 @@ unsafe extern "C" {
     fn session_read(
         told: *const u32, told_len: usize, state: *const u64, state_len: usize, media: *const u8, media_len: usize,
         offset: u32, dst: *mut u8, dst_len: usize,
+    ) -> u32;
+    fn session_begin(
+        state: *mut u64, state_len: usize, id: u32, codes: *mut u8, codes_len: usize, ids: *mut u32, ids_len: usize,
+        places: *mut u64, places_len: usize,
     ) -> u32;
 }
 
@@ -238,6 +251,9 @@ struct Ours {
     digests: Vec<u64>,
     changed: Vec<u8>,
     answered: Vec<u8>,
+    codes: Vec<u8>,
+    ids: Vec<u32>,
+    places: Vec<u64>,
 }
 
 fn told_of(units: [u32; 4], rejected: bool, armed: Option<Injection>) -> [u32; 10] {
@@ -276,10 +292,17 @@ impl Ours {
             digests: vec![0; 1024],
             changed: vec![0; 1024],
             answered: vec![0; 1024],
+            codes: vec![0; 512],
+            ids: vec![0; 512],
+            places: vec![0; 512],
         };
-        let (codes, ids, places) = ([0u8; 512], [0u32; 512], [0u64; 512]);
-        let Self { told, state, media, copy, kinds, offsets, lens, digests, changed, answered } = &mut ours;
-        let answer = unsafe {
+        (ours.restart(), ours)
+    }
+
+    /// A start over what is lent already.
+    fn restart(&mut self) -> u32 {
+        let Self { told, state, media, copy, kinds, offsets, lens, digests, changed, answered, codes, ids, places } = self;
+        unsafe {
             session_start(
                 told.as_ptr(), told.len(), state.as_mut_ptr(), state.len(), media.as_mut_ptr(), media.len(),
                 copy.as_ptr(), copy.len(), kinds.as_ptr(), kinds.len(), offsets.as_ptr(), offsets.len(),
@@ -287,12 +310,11 @@ impl Ours {
                 answered.as_ptr(), answered.len(), codes.as_ptr(), codes.len(), ids.as_ptr(), ids.len(),
                 places.as_ptr(), places.len(),
             )
-        };
-        (answer, ours)
+        }
     }
 
     fn program(&mut self, offset: u32, bytes: &[u8]) -> u32 {
-        let Self { told, state, media, copy, kinds, offsets, lens, digests, changed, answered } = self;
+        let Self { told, state, media, copy, kinds, offsets, lens, digests, changed, answered, .. } = self;
         unsafe {
             session_program(
                 told.as_ptr(), told.len(), state.as_mut_ptr(), state.len(), offset, bytes.as_ptr(), bytes.len(),
@@ -304,7 +326,7 @@ impl Ours {
     }
 
     fn erase(&mut self, offset: u32, len: u32) -> u32 {
-        let Self { told, state, media, copy, kinds, offsets, lens, digests, changed, answered } = self;
+        let Self { told, state, media, copy, kinds, offsets, lens, digests, changed, answered, .. } = self;
         unsafe {
             session_erase(
                 told.as_ptr(), told.len(), state.as_mut_ptr(), state.len(), offset, len,
@@ -332,6 +354,16 @@ impl Ours {
             session_read(
                 told.as_ptr(), told.len(), state.as_ptr(), state.len(), media.as_ptr(), media.len(),
                 offset, dst.as_mut_ptr(), dst.len(),
+            )
+        }
+    }
+
+    fn begin(&mut self, id: u32) -> u32 {
+        let Self { state, codes, ids, places, .. } = self;
+        unsafe {
+            session_begin(
+                state.as_mut_ptr(), state.len(), id, codes.as_mut_ptr(), codes.len(), ids.as_mut_ptr(), ids.len(),
+                places.as_mut_ptr(), places.len(),
             )
         }
     }
@@ -535,48 +567,92 @@ fn random_case(random: &mut Random) -> Case {
     case
 }
 
+// A session of the Rust makes its lists anew; ours is started over lent columns that are there already. Neither builds a ledger.
 fn bench(_: &mut Random) {
     let bytes: Vec<u8> = (0..4096u32).map(|i| (i * 7) as u8).collect();
-    let units = [512 * 4096, 4096, 256, 4];
-    let geometry = Geometry::new(units[0], units[1], units[2], units[3]).expect("units that nest");
-    let harness = Harness::new(geometry);
-    bench_row(
-        "session: program of 4,096 bytes, 512 a session",
-        512,
-        || {
-            let run = harness.run_fault_free(|session| {
-                (0..512).try_for_each(|place| session.program(place * 4096, &bytes))
-            });
-            let run = run.expect("no fault");
-            run.ops().len() as u64 + u64::from(run.image()[4097])
-        },
-        || {
-            let (start, mut ours) = Ours::start(told_of(units, false, None));
-            let answers: u32 = (0..512).map(|place| ours.program(place * 4096, &bytes)).sum();
-            u64::from(start + answers) + ours.state[0] + u64::from(ours.media[4097])
-        },
+    let bytes = &bytes[..];
+    let small = [65536, 4096, 64, 4];
+    let large = [512 * 4096, 4096, 256, 4];
+    bench_session("start, media of 64 KiB", 1, small, |_| 0, |_| 0);
+    bench_session(
+        "program of 64 bytes, 1,024 a session",
+        1024,
+        small,
+        |session| (0..1024).filter(|place| session.program(place * 64, &bytes[..64]).is_err()).count(),
+        |ours| (0..1024).filter(|place| ours.program(place * 64, &bytes[..64]) != 0).count(),
     );
-    let units = [16, 8, 4, 4];
-    let harness = Harness::new(Geometry::new(16, 8, 4, 4).expect("units that nest"));
+    bench_session(
+        "program of 4,096 bytes, 512 a session",
+        512,
+        large,
+        |session| (0..512).filter(|place| session.program(place * 4096, bytes).is_err()).count(),
+        |ours| (0..512).filter(|place| ours.program(place * 4096, bytes) != 0).count(),
+    );
+    bench_session(
+        "erase of 4,096 bytes, 1,024 a session",
+        1024,
+        small,
+        |session| (0..1024).filter(|place| session.erase(place % 16 * 4096, 4096).is_err()).count(),
+        |ours| (0..1024).filter(|place| ours.erase(place % 16 * 4096, 4096) != 0).count(),
+    );
+    bench_session(
+        "barrier, 1,024 a session",
+        1024,
+        small,
+        |session| (0..1024).filter(|_| session.barrier().is_err()).count(),
+        |ours| (0..1024).filter(|_| ours.barrier() != 0).count(),
+    );
+    bench_session(
+        "read of 64 bytes, 1,024 a session",
+        1024,
+        small,
+        |session| (0..1024).filter(|place| session.read(place * 64, black_box(&mut [0; 64])).is_err()).count(),
+        |ours| (0..1024).filter(|place| ours.read(place * 64, black_box(&mut [0; 64])) != 0).count(),
+    );
+    bench_session(
+        "begin_record, 512 a session",
+        512,
+        small,
+        |session| (0..512).map(|id| session.begin_record(RecordId(id))).filter(|()| false).count(),
+        |ours| (0..512).filter(|id| ours.begin(*id) != 0).count(),
+    );
+}
+
+/// One row: the time of a call, where each session makes `calls` of them. Each side gives how many were refused.
+fn bench_session(
+    what: &str,
+    calls: usize,
+    units: [u32; 4],
+    rust: impl Fn(&mut Session) -> usize,
+    ours: impl Fn(&mut Ours) -> usize,
+) {
+    let [capacity, erase, program, read] = units;
+    let geometry = Geometry::new(capacity, erase, program, read).expect("units that nest");
+    let (start, lent) = Ours::start(told_of(units, false, None));
+    assert_eq!(start, 0);
+    let lent = RefCell::new(lent);
+    let sessions = 65536 / calls.max(64);
+    let left = |refused: usize, image: &[u8], operations: usize| {
+        (refused + operations) as u64 + u64::from(image[0]) + u64::from(image[image.len() - 1])
+    };
     bench_row(
-        "session: barrier, 1,024 a session",
-        64 * 1024,
+        &format!("session: {what}"),
+        sessions * calls,
         || {
-            (0..64)
-                .map(|_| {
-                    let run = harness.run_fault_free(|session| (0..1024).try_for_each(|_| session.barrier()));
-                    run.expect("no fault").ops().len() as u64
-                })
-                .sum()
+            let run = |_| {
+                let mut session = inside::new(Device::new(geometry), None);
+                let refused = rust(&mut session);
+                left(refused, session.image(), session.operations())
+            };
+            (0..sessions).map(run).sum()
         },
         || {
-            (0..64)
-                .map(|_| {
-                    let (start, mut ours) = Ours::start(told_of(units, false, None));
-                    let answers: u32 = (0..1024).map(|_| ours.barrier()).sum();
-                    u64::from(start + answers) + ours.state[0]
-                })
-                .sum()
+            let run = |_| {
+                let mut session = lent.borrow_mut();
+                let refused = session.restart() as usize + ours(&mut session);
+                left(refused, &session.media, session.state[0] as usize)
+            };
+            (0..sessions).map(run).sum()
         },
     );
 }

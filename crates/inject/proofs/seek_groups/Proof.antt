@@ -4,6 +4,7 @@ use mathlib.Core.Path.{_≡_, refl, sym, ap, _∙_}
 use Prim.Native.Nat.{_-_, _≤_}
 use native.Mathlib.Omega.{arith}
 use lib.ListN.{length}
+use borrow.Author.Needs.{needs}
 use denote.Ref.{now}
 use Rattle.inject.specs.declared.Progress.{Progress}
 use Rattle.inject.specs.declared.Sought.the-variants.{At}
@@ -24,20 +25,35 @@ abbrev μ-loop : tie.MeasureT-loop
 loop-holds : tie.Need-loop-holds Inv-loop μ-loop
 loop-holds c = (omega arith, refl)
 
-group-at-requires : tie.Need-group-at-requires Inv-loop μ-loop
-group-at-requires c κs = (c .before .before .before .before .before .pre, c .loop-test .taken)
+shared-slice-read-group-of : tie.Need-shared-slice-read-group-of Inv-loop μ-loop
+shared-slice-read-group-of c = search needs
+
+mul-group-of : tie.Need-mul-group-of Inv-loop μ-loop
+mul-group-of c = search needs
+
+shared-slice-read-group-of-2 : tie.Need-shared-slice-read-group-of-2 Inv-loop μ-loop
+shared-slice-read-group-of-2 c = rw (← c .before .before .before .before .before .before .before .pre .offsets-equal) (c .before .before .loop-test .taken)
+
+mul-group-of-2 : tie.Need-mul-group-of-2 Inv-loop μ-loop
+mul-group-of-2 c = search needs
+
+shared-slice-read-group-of-3 : tie.Need-shared-slice-read-group-of-3 Inv-loop μ-loop
+shared-slice-read-group-of-3 c = rw (← c .before .before .before .before .before .before .before .before .pre .lens-equal) (c .before .before .before .loop-test .taken)
+
+group-of-requires : tie.Need-group-of-requires Inv-loop μ-loop
+group-of-requires c κs = search needs
 
 size-requires : tie.Need-size-requires Inv-loop μ-loop
-size-requires c κs = c .group-at .ensures .small
+size-requires c κs = c .group-of .ensures .small
 
 progress-at-requires : tie.Need-progress-at-requires Inv-loop μ-loop
-progress-at-requires c κs = (c .before .before .group-at .ensures .small, rw (c .before .size .ensures .0) at (c .if1 .taken))
+progress-at-requires c κs = (c .before .before .group-of .ensures .small, rw (c .before .size .ensures .0) at (c .if1 .taken))
 
 returns : tie.Need-returns Inv-loop μ-loop
-returns c = let s = c .before .before .before .before .before .before .before .before .before in
-    let l = c .before .before .before .before .before .loop in
+returns c = let s = c .before .before .before .before .before .before .before .before .before .before .before .before in
+    let l = c .before .before .before .before .before .before .before .before .loop in
     ap (λ (q : Progress). At (point (l .i) (s .args .cause) q)) (c .progress-at .ensures)
-    ∙ sym (rest-in _ _ _ _ _ (s .pre) _ (c .before .before .before .before .loop-test .taken) _ (c .before .before .before .group-at .ensures) _
+    ∙ sym (rest-in _ _ _ _ _ (s .pre) _ (c .before .before .before .before .before .before .before .loop-test .taken) _ (c .before .before .before .group-of .ensures) _
     (rw (c .before .before .size .ensures .0) at (c .before .if1 .taken)))
     ∙ l .inv .1
 
@@ -48,11 +64,11 @@ loop-less : tie.Need-loop-less Inv-loop μ-loop
 loop-less c = omega arith
 
 loop-again : tie.Need-loop-again Inv-loop μ-loop
-loop-again c = let s = c .before .before .before .before .before .before .before .before in (
+loop-again c = let s = c .before .before .before .before .before .before .before .before .before .before .before in (
   omega arith,
-  sym (rest-past _ _ _ _ _ (s .pre) _ (c .before .before .before .loop-test .taken) _ (c .before .before .group-at .ensures) _ _
+  sym (rest-past _ _ _ _ _ (s .pre) _ (c .before .before .before .before .before .before .loop-test .taken) _ (c .before .before .group-of .ensures) _ _
       (c .before .size .ensures .0) (c .if1 .left))
-      ∙ c .before .before .before .before .loop .inv .1,
+      ∙ c .before .before .before .before .before .before .before .loop .inv .1,
 )
 
 returns-2 : tie.Need-returns-2 Inv-loop μ-loop
@@ -68,7 +84,12 @@ seek-groups-spec =
     Inv-loop
     μ-loop
     loop-holds
-    group-at-requires
+    shared-slice-read-group-of
+    mul-group-of
+    shared-slice-read-group-of-2
+    mul-group-of-2
+    shared-slice-read-group-of-3
+    group-of-requires
     size-requires
     progress-at-requires
     returns

@@ -3,6 +3,7 @@ use mathlib.Core.Path.{_≡_, ap}
 use Prim.Native.Nat.{_+_, _*_, _-_, _≤_}
 use native.Mathlib.Omega.{arith}
 use lib.ListN.{length}
+use borrow.Author.Needs.{needs}
 use denote.Ref.{now}
 use Rattle.inject.specs.Ops.{opsOf}
 use Rattle.inject.specs.Points.{under}
@@ -20,14 +21,29 @@ abbrev μ-loop : tie.MeasureT-loop
 loop-holds : tie.Need-loop-holds Inv-loop μ-loop
 loop-holds c = (omega arith, omega arith, omega arith)
 
-group-at-requires : tie.Need-group-at-requires Inv-loop μ-loop
-group-at-requires c κs = (c .before .before .before .before .before .pre, c .loop-test .taken)
+shared-slice-read-group-of : tie.Need-shared-slice-read-group-of Inv-loop μ-loop
+shared-slice-read-group-of c = search needs
+
+mul-group-of : tie.Need-mul-group-of Inv-loop μ-loop
+mul-group-of c = search needs
+
+shared-slice-read-group-of-2 : tie.Need-shared-slice-read-group-of-2 Inv-loop μ-loop
+shared-slice-read-group-of-2 c = rw (← c .before .before .before .before .before .before .before .pre .offsets-equal) (c .before .before .loop-test .taken)
+
+mul-group-of-2 : tie.Need-mul-group-of-2 Inv-loop μ-loop
+mul-group-of-2 c = search needs
+
+shared-slice-read-group-of-3 : tie.Need-shared-slice-read-group-of-3 Inv-loop μ-loop
+shared-slice-read-group-of-3 c = rw (← c .before .before .before .before .before .before .before .before .pre .lens-equal) (c .before .before .before .loop-test .taken)
+
+group-of-requires : tie.Need-group-of-requires Inv-loop μ-loop
+group-of-requires c κs = search needs
 
 size-requires : tie.Need-size-requires Inv-loop μ-loop
-size-requires c κs = c .group-at .ensures .small
+size-requires c κs = c .group-of .ensures .small
 
 add-sum : tie.Need-add-sum Inv-loop μ-loop
-add-sum c = let few = c .before .before .before .before .before .before .before .pre .few in omega (arith, few)
+add-sum c = let few = c .before .before .before .before .before .before .before .before .before .before .pre .few in omega (arith, few)
 
 add-i : tie.Need-add-i Inv-loop μ-loop
 add-i c = omega arith
@@ -36,8 +52,8 @@ loop-less : tie.Need-loop-less Inv-loop μ-loop
 loop-less c = omega arith
 
 loop-again : tie.Need-loop-again Inv-loop μ-loop
-loop-again c = let s = c .before .before .before .before .before .before .before in
-    let more = rest-length _ _ _ _ _ (s .pre) _ (c .before .before .loop-test .taken) _ (c .before .group-at .ensures) in
+loop-again c = let s = c .before .before .before .before .before .before .before .before .before .before in
+    let more = rest-length _ _ _ _ _ (s .pre) _ (c .before .before .before .before .before .loop-test .taken) _ (c .before .group-of .ensures) in
     (omega arith, omega arith, omega (arith, more, c .size .ensures .0))
 
 returns : tie.Need-returns Inv-loop μ-loop
@@ -52,7 +68,12 @@ total-spec =
     Inv-loop
     μ-loop
     loop-holds
-    group-at-requires
+    shared-slice-read-group-of
+    mul-group-of
+    shared-slice-read-group-of-2
+    mul-group-of-2
+    shared-slice-read-group-of-3
+    group-of-requires
     size-requires
     add-sum
     add-i

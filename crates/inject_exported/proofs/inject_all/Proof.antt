@@ -1,7 +1,7 @@
 -- `inject_exported::inject_all` meets its contract: the answer told which case it is, and with it the number of the tests and the columns. Assumes nothing.
 use borrow.Author.Needs.{needs}
 use denote.Ref.{now}
-use Rattle.inject.specs.Answers.{PointColumns, columnsOf}
+use Rattle.inject_columns.specs.Answers.{PointColumns, columnsOf}
 use Rattle.inject_exported.proofs.InjectNumbers.{list-taken, list-refused}
 use Rattle.inject_exported.proofs.inject_all.Statement.{statement}
 use Rattle.inject_exported.proofs.inject_all.Tie as tie

@@ -12,18 +12,15 @@ armed-for-requires c κs = search needs
 program-lands-requires : tie.Need-program-lands-requires
 program-lands-requires c κs = search needs
 
-add-write-reply : tie.Need-add-write-reply
-add-write-reply c = simp (c .program-lands .ensures) (omega (arith, (lands-le (c .before .armed-for .result) (c .before .before .before .args .len) (c .before .before .before .args .told .geometry .«program_size»))))
+add-planned : tie.Need-add-planned
+add-planned c = simp (c .program-lands .ensures) (omega (arith, (lands-le (c .before .armed-for .result) (c .before .before .before .args .len) (c .before .before .before .args .told .geometry .«program_size»))))
 
-sub-write-reply : tie.Need-sub-write-reply
-sub-write-reply c = simp (c .program-lands .ensures) (omega (arith, (lands-le (c .before .armed-for .result) (c .before .before .before .args .len) (c .before .before .before .args .told .geometry .«program_size»))))
-
-write-reply-requires : tie.Need-write-reply-requires
-write-reply-requires c κs = search needs
+planned-requires : tie.Need-planned-requires
+planned-requires c κs = search needs
 
 returns : tie.Need-returns
 unfolding programPlan
-returns c = simp (c .write-reply .ensures, c .before .program-lands .ensures, c .before .before .armed-for .ensures)
+returns c = simp (c .planned .ensures, c .before .program-lands .ensures, c .before .before .armed-for .ensures)
 
 pub program-plan-spec : {M : Type 1} → statement M
 program-plan-spec =
@@ -31,7 +28,6 @@ program-plan-spec =
     (tie.spec
     armed-for-requires
     program-lands-requires
-    add-write-reply
-    sub-write-reply
-    write-reply-requires
+    add-planned
+    planned-requires
     returns)

@@ -1,0 +1,42 @@
+-- `ledger_cases::print_entries` is safe and ends: it counts the entries up to sixteen. Assumes nothing.
+use Prim.Native.Nat.{_≤_, _-_}
+use borrow.Author.Needs.{needs}
+use Rattle.ledger_cases.proofs.print_entries.Statement.{statement}
+use Rattle.ledger_cases.proofs.print_entries.Tie as tie
+
+abbrev Inv-loop : tie.InvT-loop
+Inv-loop ids states torn entries place₀ place = place ≤ 16
+
+abbrev μ-loop : tie.MeasureT-loop
+μ-loop ids states torn entries place₀ place = 16 - place
+
+loop-holds : tie.Need-loop-holds Inv-loop μ-loop
+loop-holds c = search needs
+
+print-entry-requires : tie.Need-print-entry-requires Inv-loop μ-loop
+print-entry-requires c κs = search needs
+
+add-place : tie.Need-add-place Inv-loop μ-loop
+add-place c = search needs
+
+loop-less : tie.Need-loop-less Inv-loop μ-loop
+loop-less c = search needs
+
+loop-again : tie.Need-loop-again Inv-loop μ-loop
+loop-again c = search needs
+
+returns : tie.Need-returns Inv-loop μ-loop
+returns c = search needs
+
+pub print-entries-spec : {M : Type 1} → statement M
+print-entries-spec =
+    tie.close
+    (tie.spec
+    Inv-loop
+    μ-loop
+    loop-holds
+    print-entry-requires
+    add-place
+    loop-less
+    loop-again
+    returns)

@@ -1,0 +1,2 @@
+-- Laws that the marks' proofs cite.
+pub mod Rows

@@ -1,0 +1,2 @@
+-- The law that the exported functions' proofs cite.
+pub mod Told

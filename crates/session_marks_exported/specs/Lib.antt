@@ -1,0 +1,2 @@
+-- What the exported functions leave in the places that they are lent. Definitions only; assumes nothing.
+pub mod Left

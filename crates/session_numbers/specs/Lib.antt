@@ -1,0 +1,2 @@
+-- The session's values as numbers. Definitions only; assumes nothing.
+pub mod Numbers

@@ -1,0 +1,854 @@
+//! The layer `replay` against a plain run of our own: the Rust has no function that runs a list of calls. The run is written from
+//! document 01 alone ("Demand 3", the session's rules and the numbers), not from the proved code: lists of programs, erases,
+//! barriers, begins and ends with at most one cut. Compared are every answer, the media, the ledger, the log and the marks, the
+//! copy, the number of a refusal, and every cell that is left alone.
+//!
+//! A part of `session`, whose random calls and numbers it makes.
+
+use super::{Call, DEVICES, INTERRUPTIONS, random_call, told_of};
+use crate::common::{self, Comparison, Difference, Input, Layer, Random, bench_row, cuts, smaller_numbers, without};
+use std::cell::RefCell;
+use std::collections::BTreeMap;
+use waymaker_fault::inject::{Injection, Interruption, Progress};
+
+pub const LAYER: Layer = Layer { name: "replay", compare, bench, sample };
+
+// crates/replay_exported/src/lib.rt. Nothing proves that this declaration is that of the file: this is what is trusted here. A
+// slice crosses as a pointer, then a length.
+#[rustfmt::skip]
+unsafe extern "C" {
+    fn replay_of_calls(
+        told: *const u32, told_len: usize, kinds: *const u8, kinds_len: usize, ids: *const u32, ids_len: usize,
+        offsets: *const u32, offsets_len: usize, lens: *const u32, lens_len: usize, starts: *const u32, starts_len: usize,
+        pool: *const u8, pool_len: usize, answers: *mut u32, answers_len: usize, media: *mut u8, media_len: usize,
+        copy: *mut u8, copy_len: usize, ops: *mut u8, ops_len: usize, spans: *mut u32, spans_len: usize,
+        sizes: *mut u32, sizes_len: usize, digests: *mut u64, digests_len: usize, changed: *mut u8, changed_len: usize,
+        answered: *mut u8, answered_len: usize, marks: *mut u8, marks_len: usize, named: *mut u32, named_len: usize,
+        places: *mut u64, places_len: usize, records: *mut u32, records_len: usize, states: *mut u8, states_len: usize,
+        torn: *mut u8, torn_len: usize, entries: *mut u64,
+    ) -> u32;
+}
+
+/// A session takes so many.
+const OPERATIONS: usize = 1024;
+const MARKS: usize = 512;
+
+// ---- inputs
+
+/// One call: 0 a program, 1 an erase, 2 a barrier, 3 begin, 4 end; a program's bytes start there in the pool.
+#[derive(Clone, Copy, Debug)]
+struct Row {
+    kind: u8,
+    id: u32,
+    offset: u32,
+    len: u32,
+    start: u32,
+}
+
+/// Places of the lengths of what is lent: the calls' five columns, the answers, media, copy, the log's six columns, the marks'
+/// three, the ledger's three.
+const CALLS: usize = 0;
+const ANSWERS: usize = 5;
+const MEDIA: usize = 6;
+const LOG: usize = 8;
+const NOTED: usize = 14;
+const LEDGER: usize = 17;
+const LENGTHS: usize = 20;
+
+/// Four units, whether the bit rule is Rejected, what is armed, the calls and the pool, and how lengths differ from those that
+/// are fit for the calls: a place and a difference each.
+#[derive(Clone, Debug)]
+struct Case {
+    units: [u32; 4],
+    rejected: bool,
+    armed: Option<Injection>,
+    rows: Vec<Row>,
+    pool: Vec<u8>,
+    changes: Vec<(usize, isize)>,
+}
+
+impl Case {
+    /// Fit for the calls: one answer and one ledger row more than are written.
+    fn lengths(&self) -> [usize; LENGTHS] {
+        let mut found = [self.rows.len(); LENGTHS];
+        found[ANSWERS] += 1;
+        found[MEDIA..LOG].fill(self.units[0] as usize);
+        found[LOG..NOTED].fill(OPERATIONS);
+        found[NOTED..LEDGER].fill(MARKS);
+        found[LEDGER..].fill(self.rows.iter().filter(|row| row.kind == 3).count() + 1);
+        for &(place, by) in &self.changes {
+            found[place] = found[place].saturating_add_signed(by);
+        }
+        found
+    }
+
+    /// A column of the calls, 0 past the last.
+    fn column<T: Copy + Default>(&self, of: impl Fn(&Row) -> T, len: usize) -> Vec<T> {
+        (0..len).map(|i| self.rows.get(i).map_or(T::default(), &of)).collect()
+    }
+
+    /// The calls that columns of this length hold.
+    fn held(&self, len: usize) -> impl Iterator<Item = Row> + '_ {
+        (0..len).map(|i| self.rows.get(i).copied().unwrap_or(Row { kind: 0, id: 0, offset: 0, len: 0, start: 0 }))
+    }
+}
+
+impl Input for Case {
+    fn smaller(&self) -> Vec<Self> {
+        let mut found = Vec::new();
+        if self.armed.is_some() {
+            found.push(Self { armed: None, ..self.clone() });
+        }
+        for place in 0..self.changes.len() {
+            let mut less = self.clone();
+            less.changes.remove(place);
+            found.push(less);
+        }
+        for (from, to) in cuts(self.rows.len()) {
+            found.push(Self { rows: without(&self.rows, from, to), ..self.clone() });
+        }
+        for (place, row) in self.rows.iter().enumerate().take(64) {
+            let offsets = smaller_numbers(row.offset).into_iter().map(|offset| Row { offset, ..*row });
+            let lens = smaller_numbers(row.len).into_iter().map(|len| Row { len, ..*row });
+            for row in offsets.chain(lens) {
+                let mut less = self.clone();
+                less.rows[place] = row;
+                found.push(less);
+            }
+        }
+        if let Some(armed) = self.armed {
+            for op in smaller_numbers(armed.op as u32) {
+                found.push(Self { armed: Some(Injection { op: op as usize, ..armed }), ..self.clone() });
+            }
+            if let Progress::Bytes(count) = armed.progress {
+                for count in smaller_numbers(count) {
+                    let armed = Injection { progress: Progress::Bytes(count), ..armed };
+                    found.push(Self { armed: Some(armed), ..self.clone() });
+                }
+            }
+        }
+        found
+    }
+}
+
+/// What stands in every lent cell before.
+const OLD: u8 = 0xA5;
+const OLD_32: u32 = 0xA5A5_A5A5;
+const OLD_64: u64 = 0xA5A5_A5A5_A5A5_A5A5;
+
+/// Kind, offset, length, digest, whether a cell changed, whether it answered 0.
+type Operation = (u8, u32, u32, u64, u8, u8);
+
+/// All that a replay leaves. Of log and marks the rows written, and whether any other cell was: those past the last row, and
+/// those past the column's end.
+#[derive(PartialEq, Debug)]
+struct Left {
+    number: u32,
+    entries: u64,
+    answers: Vec<u32>,
+    media: Vec<u8>,
+    copy: Vec<u8>,
+    records: Vec<u32>,
+    states: Vec<u8>,
+    torn: Vec<u8>,
+    log: Vec<Operation>,
+    /// 1 and the id for a begin, 0 for an end; the operations before it.
+    marks: Vec<(u8, u32, u64)>,
+    elsewhere: bool,
+}
+
+impl Left {
+    fn untouched(case: &Case, number: u32) -> Self {
+        let lengths = case.lengths();
+        Self {
+            number,
+            entries: OLD_64,
+            answers: vec![OLD_32; lengths[ANSWERS]],
+            media: vec![OLD; lengths[MEDIA]],
+            copy: vec![OLD; lengths[MEDIA + 1]],
+            records: vec![OLD_32; lengths[LEDGER]],
+            states: vec![OLD; lengths[LEDGER + 1]],
+            torn: vec![OLD; lengths[LEDGER + 2]],
+            log: Vec::new(),
+            marks: Vec::new(),
+            elsewhere: false,
+        }
+    }
+}
+
+impl common::Answer for Left {
+    fn number(&self) -> u32 {
+        self.number
+    }
+}
+
+// ---- the plain run
+
+/// An operation taken, and, where it is the armed one, what the write would have left where its bytes did not land.
+struct Taken {
+    kind: u8,
+    offset: u32,
+    len: u32,
+    digest: u64,
+    changed: bool,
+    answer: u32,
+    missing: Option<(usize, Vec<u8>)>,
+}
+
+struct Plain {
+    units: [u32; 4],
+    rejected: bool,
+    armed: Option<Injection>,
+    media: Vec<u8>,
+    taken: Vec<Taken>,
+    marks: Vec<(Option<u32>, usize)>,
+    /// 0 while it runs, else the number of a later call.
+    stop: u32,
+}
+
+/// "Any of the four zero, 1; a unit that is no power of two, 2; capacity no multiple of the erase unit, erase below program, or
+/// program below read, 3."
+fn units_number([capacity, erase, program, read]: [u32; 4]) -> u32 {
+    if capacity == 0 || erase == 0 || program == 0 || read == 0 {
+        1
+    } else if [erase, program, read].iter().any(|unit| unit.count_ones() != 1) {
+        2
+    } else if capacity % erase != 0 || erase < program || program < read {
+        3
+    } else {
+        0
+    }
+}
+
+/// "Offset (4), then length (5), against its call's unit, then an end that overflows u32 or passes capacity (6)."
+fn span_number(offset: u32, len: u32, unit: u32, capacity: u32) -> u32 {
+    if offset % unit != 0 {
+        4
+    } else if len % unit != 0 {
+        5
+    } else if u64::from(offset) + u64::from(len) > u64::from(capacity) {
+        6
+    } else {
+        0
+    }
+}
+
+/// FNV-1a, 64 bits.
+fn digest_of(bytes: &[u8]) -> u64 {
+    bytes.iter().fold(0xCBF2_9CE4_8422_2325, |sum, &byte| (sum ^ u64::from(byte)).wrapping_mul(0x0000_0100_0000_01B3))
+}
+
+/// How many bytes of an armed operation land, its answer, and the stop.
+fn ending(armed: Injection, kind: u8, len: u32, unit: u32) -> (usize, u32, u32) {
+    let said = match armed.progress {
+        Progress::None => 0,
+        Progress::Bytes(count) => count.min(len),
+        Progress::Whole => len,
+    };
+    let landed = match armed.interruption {
+        Interruption::Watchdog => {
+            (u64::from(said).div_ceil(u64::from(unit)) * u64::from(unit)).min(u64::from(len)) as u32
+        }
+        Interruption::PowerLoss | Interruption::Failure if kind == 1 => said / unit * unit,
+        Interruption::PowerLoss | Interruption::Failure => said,
+    };
+    let completed =
+        if kind == 2 { !matches!(armed.progress, Progress::None | Progress::Bytes(0)) } else { landed == len };
+    let (answer, stop) = match (armed.interruption, completed) {
+        (Interruption::PowerLoss, false) => (21, 21),
+        (Interruption::PowerLoss, true) => (0, 21),
+        (Interruption::Watchdog, _) => (22, 22),
+        (Interruption::Failure, _) => (23, 0),
+    };
+    (landed as usize, answer, stop)
+}
+
+impl Plain {
+    fn call(&mut self, row: Row, pool: &[u8]) -> u32 {
+        match row.kind {
+            0 => self.act(0, row.offset, row.len, &pool[row.start as usize..][..row.len as usize]),
+            1 => self.act(1, row.offset, row.len, &[]),
+            2 => self.act(2, 0, 0, &[]),
+            3 => self.mark(Some(row.id)),
+            _ => self.mark(None),
+        }
+    }
+
+    fn mark(&mut self, id: Option<u32>) -> u32 {
+        if self.marks.len() == MARKS {
+            return 28;
+        }
+        self.marks.push((id, self.taken.len()));
+        0
+    }
+
+    fn act(&mut self, kind: u8, offset: u32, len: u32, bytes: &[u8]) -> u32 {
+        if self.stop != 0 {
+            return self.stop;
+        }
+        let [capacity, erase, program, _] = self.units;
+        let unit = if kind == 1 { erase } else { program };
+        let refused = if kind == 2 { 0 } else { span_number(offset, len, unit, capacity) };
+        if refused != 0 {
+            return refused;
+        }
+        let from = offset as usize;
+        let cells = &mut self.media[from..from + len as usize];
+        if kind == 0 && self.rejected && cells.iter().zip(bytes).any(|(cell, byte)| byte & !cell != 0) {
+            return 20;
+        }
+        if self.taken.len() == OPERATIONS {
+            return 27;
+        }
+        let would: Vec<u8> = if kind == 0 {
+            cells.iter().zip(bytes).map(|(cell, byte)| cell & byte).collect()
+        } else {
+            vec![0xFF; cells.len()]
+        };
+        let cut = self.armed.filter(|armed| armed.op == self.taken.len());
+        let (landed, answer, stop) = cut.map_or((cells.len(), 0, 0), |armed| ending(armed, kind, len, unit));
+        let changed = cells[..landed] != would[..landed];
+        cells[..landed].copy_from_slice(&would[..landed]);
+        let missing = cut.map(|_| (from + landed, would[landed..].to_vec()));
+        let digest = if kind == 0 { digest_of(bytes) } else { 0 };
+        self.taken.push(Taken { kind, offset, len, digest, changed, answer, missing });
+        self.stop = stop;
+        answer
+    }
+
+    /// Whether, at the end, the media differ from what the write would have left where its bytes did not land.
+    fn withheld(&self, taken: &Taken) -> bool {
+        taken.missing.as_ref().is_some_and(|(from, would)| self.media[*from..][..would.len()] != would[..])
+    }
+
+    /// Id, state and torn of each begin that was taken.
+    fn ledger(&self) -> Vec<(u32, u8, u8)> {
+        let mut found = Vec::new();
+        for (place, &(id, from)) in self.marks.iter().enumerate() {
+            let Some(id) = id else { continue };
+            let to = self.marks.get(place + 1).map_or(self.taken.len(), |next| next.1);
+            let own = &self.taken[from..to];
+            let after = own.iter().rposition(|taken| taken.kind != 2).map_or(from, |last| from + last + 1);
+            let row = if !own.iter().any(|taken| taken.changed) {
+                (id, 0, 0)
+            } else if own.iter().any(|taken| self.withheld(taken)) {
+                (id, 1, 1)
+            } else if self.taken[after..].iter().any(|taken| taken.kind == 2 && taken.answer == 0) {
+                (id, 2, 0)
+            } else {
+                (id, 1, 0)
+            };
+            found.push(row);
+        }
+        found
+    }
+}
+
+/// The numbers 1 to 3, 7, 12 and 13, but for the room that the ledger needs.
+fn refusal(case: &Case, lengths: &[usize; LENGTHS]) -> u32 {
+    let units = units_number(case.units);
+    if units != 0 {
+        return units;
+    }
+    if lengths[MEDIA..LOG].iter().any(|&len| len != case.units[0] as usize) {
+        return 7;
+    }
+    let lists = [&lengths[CALLS..ANSWERS], &lengths[LOG..NOTED], &lengths[NOTED..LEDGER], &lengths[LEDGER..]];
+    if lists.iter().any(|list| list.iter().any(|&len| len != list[0]))
+        || case.held(lengths[CALLS]).any(|row| row.kind > 4)
+    {
+        return 12;
+    }
+    let outside = |row: Row| row.kind == 0 && u64::from(row.start) + u64::from(row.len) > case.pool.len() as u64;
+    let short = lengths[LOG] < OPERATIONS || lengths[NOTED] < MARKS || lengths[ANSWERS] < lengths[CALLS];
+    if short || case.held(lengths[CALLS]).any(outside) { 13 } else { 0 }
+}
+
+/// What document 01 says that a replay leaves.
+fn by_document(case: &Case) -> Left {
+    let lengths = case.lengths();
+    let mut left = Left::untouched(case, refusal(case, &lengths));
+    if left.number != 0 {
+        return left;
+    }
+    let mut run = Plain {
+        units: case.units,
+        rejected: case.rejected,
+        armed: case.armed,
+        media: vec![0xFF; lengths[MEDIA]],
+        taken: Vec::new(),
+        marks: Vec::new(),
+        stop: 0,
+    };
+    let answers: Vec<u32> = case.held(lengths[CALLS]).map(|row| run.call(row, &case.pool)).collect();
+    let ledger = run.ledger();
+    if ledger.len() > lengths[LEDGER] {
+        left.number = 13;
+        return left;
+    }
+    left.entries = ledger.len() as u64;
+    left.answers[..answers.len()].copy_from_slice(&answers);
+    for (place, (id, state, torn)) in ledger.into_iter().enumerate() {
+        (left.records[place], left.states[place], left.torn[place]) = (id, state, torn);
+    }
+    for taken in &run.taken {
+        let answered = u8::from(taken.answer == 0);
+        left.log.push((taken.kind, taken.offset, taken.len, taken.digest, u8::from(taken.changed), answered));
+        if let Some((from, would)) = &taken.missing {
+            left.copy[*from..][..would.len()].copy_from_slice(would);
+        }
+    }
+    left.marks.extend(run.marks.iter().map(|&(id, before)| (u8::from(id.is_some()), id.unwrap_or(0), before as u64)));
+    left.media = run.media;
+    left
+}
+
+// ---- the proved one
+
+/// Log and marks, which are lent again and again. Longer than a session needs: up to three changes make a column up to six longer.
+struct Kept {
+    ops: Vec<u8>,
+    spans: Vec<u32>,
+    sizes: Vec<u32>,
+    digests: Vec<u64>,
+    changed: Vec<u8>,
+    answered: Vec<u8>,
+    marks: Vec<u8>,
+    named: Vec<u32>,
+    places: Vec<u64>,
+}
+
+/// Whether any cell from this place on, which is not the column's end, is not as it was. Each is held to the next one: two slices
+/// are compared many cells at a time.
+fn touched<T: PartialEq>(column: &[T], from: usize, old: T) -> bool {
+    let last = column.len() - 1;
+    column[from..last] != column[from + 1..] || column[last] != old
+}
+
+impl Kept {
+    fn new() -> Self {
+        let (log, marks) = (OPERATIONS + 8, MARKS + 8);
+        Self {
+            ops: vec![OLD; log],
+            spans: vec![OLD_32; log],
+            sizes: vec![OLD_32; log],
+            digests: vec![OLD_64; log],
+            changed: vec![OLD; log],
+            answered: vec![OLD; log],
+            marks: vec![OLD; marks],
+            named: vec![OLD_32; marks],
+            places: vec![OLD_64; marks],
+        }
+    }
+
+    /// Takes the rows written, tells whether any other cell was written, and puts all back as it was.
+    fn take(&mut self) -> (Vec<Operation>, Vec<(u8, u32, u64)>, bool) {
+        let log = self.ops.iter().take_while(|&&kind| kind != OLD).count();
+        let marks = self.marks.iter().take_while(|&&code| code != OLD).count();
+        let row = |i| (self.ops[i], self.spans[i], self.sizes[i], self.digests[i], self.changed[i], self.answered[i]);
+        let operations: Vec<Operation> = (0..log).map(row).collect();
+        // What an end leaves for an id is not looked at.
+        let id = |i: usize| if self.marks[i] == 0 { 0 } else { self.named[i] };
+        let noted: Vec<(u8, u32, u64)> = (0..marks).map(|i| (self.marks[i], id(i), self.places[i])).collect();
+        let elsewhere = touched(&self.ops, log, OLD)
+            || touched(&self.spans, log, OLD_32)
+            || touched(&self.sizes, log, OLD_32)
+            || touched(&self.digests, log, OLD_64)
+            || touched(&self.changed, log, OLD)
+            || touched(&self.answered, log, OLD)
+            || touched(&self.marks, marks, OLD)
+            || touched(&self.named, marks, OLD_32)
+            || touched(&self.places, marks, OLD_64);
+        if elsewhere {
+            *self = Self::new();
+        }
+        self.ops[..log].fill(OLD);
+        self.spans[..log].fill(OLD_32);
+        self.sizes[..log].fill(OLD_32);
+        self.digests[..log].fill(OLD_64);
+        self.changed[..log].fill(OLD);
+        self.answered[..log].fill(OLD);
+        self.marks[..marks].fill(OLD);
+        self.named[..marks].fill(OLD_32);
+        self.places[..marks].fill(OLD_64);
+        (operations, noted, elsewhere)
+    }
+}
+
+/// The calls' columns.
+struct Columns {
+    kinds: Vec<u8>,
+    ids: Vec<u32>,
+    offsets: Vec<u32>,
+    lens: Vec<u32>,
+    starts: Vec<u32>,
+}
+
+fn columns_of(case: &Case) -> Columns {
+    let [kinds, ids, offsets, lens, starts, ..] = case.lengths();
+    Columns {
+        kinds: case.column(|row| row.kind, kinds),
+        ids: case.column(|row| row.id, ids),
+        offsets: case.column(|row| row.offset, offsets),
+        lens: case.column(|row| row.len, lens),
+        starts: case.column(|row| row.start, starts),
+    }
+}
+
+// SAFETY: each pointer and length are those of a slice that nothing else uses during the call.
+#[rustfmt::skip]
+fn replay(case: &Case, calls: &Columns, kept: &mut Kept, left: &mut Left) {
+    let told = told_of(case.units, case.rejected, case.armed);
+    let lengths = case.lengths();
+    let [.., ops_len, spans_len, sizes_len, digests_len, changed_len, answered_len, marks_len, named_len, places_len, _, _, _] = lengths;
+    let (ops, spans, sizes) = (&mut kept.ops[..ops_len], &mut kept.spans[..spans_len], &mut kept.sizes[..sizes_len]);
+    let (digests, changed) = (&mut kept.digests[..digests_len], &mut kept.changed[..changed_len]);
+    let (answered, marks) = (&mut kept.answered[..answered_len], &mut kept.marks[..marks_len]);
+    let (named, places) = (&mut kept.named[..named_len], &mut kept.places[..places_len]);
+    let Left { number, entries, answers, media, copy, records, states, torn, .. } = left;
+    let Columns { kinds, ids, offsets, lens, starts } = calls;
+    *number = unsafe {
+        replay_of_calls(
+            told.as_ptr(), told.len(), kinds.as_ptr(), kinds.len(), ids.as_ptr(), ids.len(),
+            offsets.as_ptr(), offsets.len(), lens.as_ptr(), lens.len(), starts.as_ptr(), starts.len(),
+            case.pool.as_ptr(), case.pool.len(), answers.as_mut_ptr(), answers.len(), media.as_mut_ptr(), media.len(),
+            copy.as_mut_ptr(), copy.len(), ops.as_mut_ptr(), ops.len(), spans.as_mut_ptr(), spans.len(),
+            sizes.as_mut_ptr(), sizes.len(), digests.as_mut_ptr(), digests.len(), changed.as_mut_ptr(), changed.len(),
+            answered.as_mut_ptr(), answered.len(), marks.as_mut_ptr(), marks.len(), named.as_mut_ptr(), named.len(),
+            places.as_mut_ptr(), places.len(), records.as_mut_ptr(), records.len(), states.as_mut_ptr(), states.len(),
+            torn.as_mut_ptr(), torn.len(), entries,
+        )
+    };
+}
+
+fn ours(case: &Case, kept: &mut Kept) -> Left {
+    let mut left = Left::untouched(case, 0);
+    replay(case, &columns_of(case), kept, &mut left);
+    (left.log, left.marks, left.elsewhere) = kept.take();
+    left
+}
+
+// ---- lists
+
+const PROGRAM: u8 = 0;
+const ERASE: u8 = 1;
+const BARRIER: Row = Row { kind: 2, id: 0, offset: 0, len: 0, start: 0 };
+const END: Row = Row { kind: 4, ..BARRIER };
+
+fn begin(id: u32) -> Row {
+    Row { kind: 3, id, ..BARRIER }
+}
+
+/// How often each number was answered, and how many records of each kind there were.
+#[derive(Default)]
+struct Seen {
+    calls: u64,
+    answers: BTreeMap<u32, u64>,
+    refusals: BTreeMap<u32, u64>,
+    records: BTreeMap<(u8, u8), u64>,
+}
+
+impl Seen {
+    fn count(&mut self, left: &Left, calls: usize) {
+        if left.number != 0 {
+            *self.refusals.entry(left.number).or_default() += 1;
+            return;
+        }
+        self.calls += calls as u64;
+        for &answer in &left.answers[..calls] {
+            *self.answers.entry(answer).or_default() += 1;
+        }
+        for row in 0..left.entries as usize {
+            *self.records.entry((left.states[row], left.torn[row])).or_default() += 1;
+        }
+    }
+
+    /// A comparison that met no call or record of some kind has shown nothing of it.
+    fn all_kinds(&self) -> Result<(), Difference> {
+        let told = |counts: &BTreeMap<u32, u64>| {
+            counts.iter().map(|(number, times)| format!("{number}: {times}")).collect::<Vec<_>>().join(", ")
+        };
+        let records = [(0, 0), (1, 0), (1, 1), (2, 0)].map(|kind| self.records.get(&kind).copied().unwrap_or(0));
+        println!("  {} calls by answer: {}", self.calls, told(&self.answers));
+        println!(
+            "  records attempted {}, possibly durable {}, torn {}, acknowledged {}",
+            records[0], records[1], records[2], records[3]
+        );
+        let answers = [0, 4, 5, 6, 20, 21, 22, 23, 27, 28].iter().all(|number| self.answers.contains_key(number));
+        let refusals = [1, 2, 3, 7, 12, 13].iter().all(|number| self.refusals.contains_key(number));
+        if answers && refusals && !records.contains(&0) {
+            return Ok(());
+        }
+        Err(Difference(String::from("no call, refusal or record of some kind was met")))
+    }
+}
+
+/// Both sides, over what is kept.
+struct Sides {
+    kept: RefCell<Kept>,
+    seen: RefCell<Seen>,
+}
+
+impl Sides {
+    fn same(&self, comparison: &mut Comparison, case: &Case) -> Result<(), Difference> {
+        let plain = |case: &Case| {
+            let left = by_document(case);
+            self.seen.borrow_mut().count(&left, case.lengths()[CALLS]);
+            left
+        };
+        comparison.same(case, plain, |case| ours(case, &mut self.kept.borrow_mut()))
+    }
+}
+
+fn compare(comparison: &mut Comparison) -> Result<(), Difference> {
+    let sides = Sides { kept: RefCell::new(Kept::new()), seen: RefCell::default() };
+    for (units, most) in [([8, 4, 2, 1], 4), ([16, 8, 8, 4], 3), ([4, 2, 1, 1], 3)] {
+        for rejected in [false, true] {
+            short(comparison, &sides, units, rejected, most)?;
+        }
+    }
+    for _ in 0..comparison.size / 2 {
+        let case = random_case(&mut comparison.random, 41);
+        sides.same(comparison, &case)?;
+    }
+    for _ in 0..(comparison.size / 10_000).max(50) {
+        let case = long_case(&mut comparison.random);
+        sides.same(comparison, &case)?;
+    }
+    for _ in 0..comparison.size / 4 {
+        let case = changed_case(&mut comparison.random);
+        sides.same(comparison, &case)?;
+    }
+    sides.seen.borrow().all_kinds()
+}
+
+/// Eleven calls for a device: marks, a barrier, programs that land anew, over one another, with nothing and at an odd place, and
+/// erases of all and of a block.
+fn eleven([capacity, erase, unit, _]: [u32; 4]) -> ([Row; 11], Vec<u8>) {
+    let program = |offset, len, start| Row { kind: PROGRAM, id: 0, offset, len, start };
+    let half = unit as usize;
+    let pool = [vec![0x00; half], vec![0xFF; half], vec![0xF0; half], vec![0x0F; half]].concat();
+    let rows = [
+        begin(1),
+        begin(2),
+        END,
+        BARRIER,
+        program(0, 2 * unit, 0),
+        program(0, unit, 2 * unit),
+        program(unit, 2 * unit, 2 * unit),
+        program(unit, 0, 0),
+        program(if unit == 1 { capacity } else { 1 }, unit, 0),
+        Row { kind: ERASE, id: 0, offset: 0, len: capacity, start: 0 },
+        Row { kind: ERASE, id: 0, offset: erase, len: erase, start: 0 },
+    ];
+    (rows, pool)
+}
+
+/// Every list of up to so many of the eleven calls, without a cut and with every cut at every index up to one past the end.
+fn short(
+    comparison: &mut Comparison,
+    sides: &Sides,
+    units: [u32; 4],
+    rejected: bool,
+    most: usize,
+) -> Result<(), Difference> {
+    let (calls, pool) = eleven(units);
+    let mut lists: Vec<Vec<Row>> = vec![Vec::new()];
+    let mut from = 0;
+    for _ in 0..most {
+        let end = lists.len();
+        for place in from..end {
+            for &row in &calls {
+                let mut list = lists[place].clone();
+                list.push(row);
+                lists.push(list);
+            }
+        }
+        from = end;
+    }
+    for rows in lists {
+        let mut case = Case { units, rejected, armed: None, rows, pool: pool.clone(), changes: Vec::new() };
+        sides.same(comparison, &case)?;
+        for armed in every_cut(&case) {
+            case.armed = Some(armed);
+            sides.same(comparison, &case)?;
+        }
+    }
+    Ok(())
+}
+
+/// None, whole, and counts 0, 1, beside and at each length of these calls and past it.
+fn every_cut(case: &Case) -> Vec<Injection> {
+    let [capacity, erase, unit, _] = case.units;
+    let mut counts = vec![0, 1, unit, 2 * unit - 1, 2 * unit, erase, capacity, capacity + 1];
+    counts.sort_unstable();
+    counts.dedup();
+    let progresses = counts.into_iter().map(Progress::Bytes).chain([Progress::None, Progress::Whole]);
+    let operations = case.rows.iter().filter(|row| row.kind < 3).count();
+    let mut found = Vec::new();
+    for progress in progresses {
+        for op in 0..operations + 1 {
+            for interruption in INTERRUPTIONS {
+                found.push(Injection { op, progress, interruption });
+            }
+        }
+    }
+    found
+}
+
+/// A row of a random call; a program's bytes go to the end of the pool, or are those of an earlier one.
+fn random_row(random: &mut Random, units: [u32; 4], pool: &mut Vec<u8>) -> Row {
+    match random_call(random, units) {
+        Call::Program(offset, bytes) => {
+            let len = bytes.len() as u32;
+            if random.below(4) == 0 && bytes.len() <= pool.len() {
+                let start = random.below(pool.len() as u32 - len + 1);
+                return Row { kind: PROGRAM, id: 9, offset, len, start };
+            }
+            let start = pool.len() as u32;
+            pool.extend(bytes);
+            Row { kind: PROGRAM, id: 9, offset, len, start }
+        }
+        Call::Erase(offset, len) => {
+            let len = if random.below(32) == 0 { 0u32.wrapping_sub(units[1]) } else { len };
+            Row { kind: ERASE, id: 9, offset, len, start: random.u32() }
+        }
+        Call::Barrier | Call::Read(..) => Row { offset: random.u32(), len: random.u32(), ..BARRIER },
+    }
+}
+
+fn random_cut(random: &mut Random, capacity: u32, operations: u32) -> Injection {
+    let progress = match random.below(6) {
+        0 => Progress::None,
+        1 => Progress::Whole,
+        2 => Progress::Bytes(random.pick(&[0, 1, u32::MAX])),
+        _ => Progress::Bytes(random.below(capacity + 2)),
+    };
+    Injection { op: random.below(operations + 2) as usize, progress, interruption: random.pick(&INTERRUPTIONS) }
+}
+
+/// Fewer calls than `end`.
+fn random_case(random: &mut Random, end: u32) -> Case {
+    let units = random.pick(&DEVICES);
+    let mut pool = Vec::new();
+    let rows: Vec<Row> = (0..random.below(end))
+        .map(|place| match random.below(8) {
+            0 | 1 => begin(if random.below(8) == 0 { 1 } else { place }),
+            2 => END,
+            _ => random_row(random, units, &mut pool),
+        })
+        .collect();
+    let operations = rows.iter().filter(|row| row.kind < 3).count() as u32;
+    let armed = (random.below(8) != 0).then(|| random_cut(random, units[0], operations));
+    Case { units, rejected: random.below(2) == 1, armed, rows, pool, changes: Vec::new() }
+}
+
+/// Past the limits of operations, of marks, or of both.
+fn long_case(random: &mut Random) -> Case {
+    let units = random.pick(&DEVICES);
+    let (mut pool, marks) = (Vec::new(), random.pick(&[1, 4, 7]));
+    let rows = (0..1000 + random.below(2000))
+        .map(|place| match random.below(8) {
+            mark if mark < marks => {
+                if random.below(4) == 0 {
+                    END
+                } else {
+                    begin(place)
+                }
+            }
+            _ if random.below(4) == 0 => BARRIER,
+            _ => random_row(random, units, &mut pool),
+        })
+        .collect();
+    let mut armed = random_cut(random, units[0], 1100);
+    if random.below(2) == 0 {
+        armed.interruption = Interruption::Failure;
+    }
+    Case { units, rejected: random.below(2) == 1, armed: Some(armed), rows, pool, changes: Vec::new() }
+}
+
+/// A list of a few calls with up to three changes, each most often a reason to refuse it.
+fn changed_case(random: &mut Random) -> Case {
+    let mut case = random_case(random, 7);
+    for _ in 0..1 + random.below(3) {
+        let by = random.pick(&[-1, 1, 2, -3]);
+        match random.below(10) {
+            0 => case.units[random.below(4) as usize] = random.pick(&[0, 1, 3, 12, 16]),
+            1..4 => case.changes.push((random.below(LENGTHS as u32) as usize, by)),
+            4 => case.changes.extend((LEDGER..LENGTHS).map(|place| (place, by))),
+            5 => case.changes.extend((CALLS..ANSWERS).map(|place| (place, by))),
+            6 => case.changes.extend((LOG..NOTED).map(|place| (place, by))),
+            7 => case.changes.extend((NOTED..LEDGER).map(|place| (place, by))),
+            change => {
+                if case.rows.is_empty() {
+                    continue;
+                }
+                let place = random.below(case.rows.len() as u32) as usize;
+                if change == 8 {
+                    case.rows[place].kind = random.pick(&[5, 6, 255]);
+                } else {
+                    case.rows[place].start = random.pick(&[1, case.pool.len() as u32, u32::MAX]);
+                }
+            }
+        }
+    }
+    case
+}
+
+// ---- times
+
+/// Lists of 40 calls without a cut, run one after the other.
+fn bench(random: &mut Random) {
+    let cases: Vec<Case> = (0..512)
+        .map(|_| {
+            let mut case = random_case(random, 41);
+            while case.rows.len() < 40 {
+                case = random_case(random, 41);
+            }
+            Case { armed: None, ..case }
+        })
+        .collect();
+    let lent: Vec<Columns> = cases.iter().map(columns_of).collect();
+    let kept = RefCell::new((Kept::new(), cases.iter().map(|case| Left::untouched(case, 0)).collect::<Vec<_>>()));
+    bench_row(
+        "replay: a call of 40 (a plain run in Rust)",
+        cases.len() * 40,
+        || cases.iter().map(|case| summed(&by_document(case))).sum(),
+        || {
+            let (kept, left) = &mut *kept.borrow_mut();
+            for ((case, calls), left) in cases.iter().zip(&lent).zip(left.iter_mut()) {
+                replay(case, calls, kept, left);
+            }
+            left.iter().map(summed).sum()
+        },
+    );
+}
+
+/// A sum of the answers and the media.
+fn summed(left: &Left) -> u64 {
+    let answers: u64 = left.answers[..40].iter().map(|&answer| u64::from(answer)).sum();
+    answers + left.media.iter().map(|&cell| u64::from(cell)).sum::<u64>() + left.entries
+}
+
+// ---- a sample: no program replays it yet
+
+fn sample() -> String {
+    let units = [8, 4, 2, 1];
+    let (calls, pool) = eleven(units);
+    let rows = vec![calls[0], calls[4], calls[3], calls[1], calls[6], calls[3], calls[2], calls[9]];
+    let mut case = Case { units, rejected: false, armed: None, rows, pool, changes: Vec::new() };
+    let mut text = String::new();
+    for armed in every_cut(&case) {
+        case.armed = Some(armed);
+        let left = by_document(&case);
+        let mut numbers = told_of(units, false, case.armed)[6..].to_vec();
+        numbers.extend(&left.answers[..case.rows.len()]);
+        for row in 0..left.entries as usize {
+            numbers.extend([left.records[row], u32::from(left.states[row]), u32::from(left.torn[row])]);
+        }
+        let fields: Vec<String> = numbers.iter().map(u32::to_string).collect();
+        text.push_str(&fields.join(" "));
+        text.push('\n');
+    }
+    text
+}
