@@ -364,13 +364,8 @@ fn refusal(case: &Case, lengths: &[usize; LENGTHS]) -> u32 {
     if short || case.held(lengths[CALLS]).any(outside) { 13 } else { 0 }
 }
 
-/// What document 01 says that a replay leaves.
-fn by_document(case: &Case) -> Left {
-    let lengths = case.lengths();
-    let mut left = Left::untouched(case, refusal(case, &lengths));
-    if left.number != 0 {
-        return left;
-    }
+/// The plain run of the calls on a new device, and their answers.
+fn run_of(case: &Case, lengths: &[usize; LENGTHS]) -> (Plain, Vec<u32>) {
     let mut run = Plain {
         units: case.units,
         rejected: case.rejected,
@@ -380,7 +375,18 @@ fn by_document(case: &Case) -> Left {
         marks: Vec::new(),
         stop: 0,
     };
-    let answers: Vec<u32> = case.held(lengths[CALLS]).map(|row| run.call(row, &case.pool)).collect();
+    let answers = case.held(lengths[CALLS]).map(|row| run.call(row, &case.pool)).collect();
+    (run, answers)
+}
+
+/// What document 01 says that a replay leaves.
+fn by_document(case: &Case) -> Left {
+    let lengths = case.lengths();
+    let mut left = Left::untouched(case, refusal(case, &lengths));
+    if left.number != 0 {
+        return left;
+    }
+    let (run, answers) = run_of(case, &lengths);
     let ledger = run.ledger();
     if ledger.len() > lengths[LEDGER] {
         left.number = 13;
@@ -724,7 +730,8 @@ fn random_cut(random: &mut Random, capacity: u32, operations: u32) -> Injection 
         2 => Progress::Bytes(random.pick(&[0, 1, u32::MAX])),
         _ => Progress::Bytes(random.below(capacity + 2)),
     };
-    Injection { op: random.below(operations + 2) as usize, progress, interruption: random.pick(&INTERRUPTIONS) }
+    let op = if random.below(64) == 0 { u32::MAX } else { random.below(operations + 2) };
+    Injection { op: op as usize, progress, interruption: random.pick(&INTERRUPTIONS) }
 }
 
 /// Fewer calls than `end`.
@@ -813,21 +820,28 @@ fn bench(random: &mut Random) {
     bench_row(
         "replay: a call of 40 (a plain run in Rust)",
         cases.len() * 40,
-        || cases.iter().map(|case| summed(&by_document(case))).sum(),
+        || cases.iter().map(plain_sum).sum(),
         || {
             let (kept, left) = &mut *kept.borrow_mut();
             for ((case, calls), left) in cases.iter().zip(&lent).zip(left.iter_mut()) {
                 replay(case, calls, kept, left);
             }
-            left.iter().map(summed).sum()
+            left.iter().map(|left| summed(&left.answers[..40], &left.media, left.entries)).sum()
         },
     );
 }
 
-/// A sum of the answers and the media.
-fn summed(left: &Left) -> u64 {
-    let answers: u64 = left.answers[..40].iter().map(|&answer| u64::from(answer)).sum();
-    answers + left.media.iter().map(|&cell| u64::from(cell)).sum::<u64>() + left.entries
+/// The tests, the run and its ledger, without the copies that a comparison looks at.
+fn plain_sum(case: &Case) -> u64 {
+    let lengths = case.lengths();
+    assert_eq!(refusal(case, &lengths), 0, "columns that are fit for the calls");
+    let (run, answers) = run_of(case, &lengths);
+    summed(&answers, &run.media, run.ledger().len() as u64)
+}
+
+fn summed(answers: &[u32], media: &[u8], entries: u64) -> u64 {
+    let answers: u64 = answers.iter().map(|&answer| u64::from(answer)).sum();
+    answers + media.iter().map(|&cell| u64::from(cell)).sum::<u64>() + entries
 }
 
 // ---- a sample: no program replays it yet
