@@ -1,7 +1,10 @@
-//! The layer `replay` against a plain run of our own: the Rust has no function that runs a list of calls. The run is written from
-//! document 01 alone ("Demand 3", the session's rules and the numbers), not from the proved code: lists of programs, erases,
+//! The layer `replay` against a plain run of our own: the Rust has no function that runs a list of calls. How a run goes and what
+//! its ledger holds is written from document 01 ("Demand 3", the session's rules and the numbers): lists of programs, erases,
 //! barriers, begins and ends with at most one cut. Compared are every answer, the media, the ledger, the log and the marks, the
 //! copy, the number of a refusal, and every cell that is left alone.
+//!
+//! Document 01 does not speak of the calls' columns, the pool and the answers, nor of the codes in log and marks: there this side
+//! follows the contract of `replay`, and shows that the code does, not that the contract is right.
 //!
 //! A part of `session`, whose random calls and numbers it makes.
 
