@@ -1,7 +1,8 @@
 -- Document 01, "Expected forms by place": "then the operation log is a lent slice of entries". How a log of entries and a log in
 -- columns correspond, both ways. Definitions only; assumes nothing.
 use Prim.Native.Nat.{ℕ, zero, suc}
-use mathlib.Core.List.{List, [], _∷_}
+use mathlib.Core.Path.{_≡_}
+use mathlib.Core.List.{List}
 use lib.ListN.{length, getD, set}
 use Rattle.session.specs.declared.Entry.{Entry}
 use Rattle.session.specs.Log.{Log, logOf, logged}
@@ -24,3 +25,8 @@ withRows l log (suc i) = set (withRows l log i) i (rowOf l i)
 abbrev pub withEntries : List Entry → Log → (n : ℕ) → Log
 withEntries log l zero = l
 withEntries log l (suc i) = logged (withEntries log l i) i (getD log i noEntry)
+
+-- columns of one length
+abbrev pub OfLength : (n : ℕ) → Log → Type 0
+OfLength n l =
+    (length (l .kinds) ≡ n) × (length (l .offsets) ≡ n) × (length (l .lens) ≡ n) × (length (l .digests) ≡ n) × (length (l .changed) ≡ n) × (length (l .answered) ≡ n)
