@@ -21,7 +21,7 @@ use waymaker_flash::storage::{Geometry, StableStorage};
 
 pub const LAYER: Layer = Layer { name: "ledger", compare, bench, sample };
 
-// crates/ledger_exported/src/lib.rt, and the marks of crates/session_exported/src/lib.rt. Nothing proves that these
+// crates/ledger_exported/src/lib.rt, and the marks of crates/session_marks_exported/src/lib.rt. Nothing proves that these
 // declarations are those of the files: this is what is trusted here. A slice crosses as a pointer, then a length.
 #[rustfmt::skip]
 unsafe extern "C" {
