@@ -20,7 +20,7 @@ pub fn marks_uneven(codes: usize, ids: usize, places: usize) -> bool
 }
 
 // 12 where the marks' columns are unequal, 13 where they are shorter than the limit.
-pub fn marks_refusal(codes: usize, ids: usize, places: usize) -> u32
+fn marks_refusal(codes: usize, ids: usize, places: usize) -> u32
     ensures { λ r. ⌜ r ≡ marksLengthTest codes ids places ⌝ }
 {
     if marks_uneven(codes, ids, places) {

@@ -8,7 +8,8 @@
 //! A part of `session`, whose calls it makes.
 
 use super::{
-    Call, DEVICES, INTERRUPTIONS, Ours, PROGRESSES, number_of, random_call, smaller_calls, told_of, unit_number,
+    Call, DEVICES, INTERRUPTIONS, Ours, PROGRESSES, number_of, progress_of, random_call, smaller_calls,
+    smaller_injections, told_of, unit_number,
 };
 use crate::common::{self, Comparison, Difference, Input, Layer, Random, bench_row, smaller_numbers};
 use std::cell::{Cell, RefCell};
@@ -96,10 +97,8 @@ impl Input for Case {
                 found.push(less);
             }
         }
-        if let Some(armed) = self.armed {
-            for op in smaller_numbers(armed.op as u32) {
-                found.push(Self { armed: Some(Injection { op: op as usize, ..armed }), ..self.clone() });
-            }
+        for armed in smaller_injections(self.armed) {
+            found.push(Self { armed: Some(armed), ..self.clone() });
         }
         found
     }
@@ -728,11 +727,7 @@ fn sample() -> String {
     let mut text = String::new();
     for place in 0..7 * 3 * 6 {
         let (op, cause, (kind, count)) = (place / 18, place / 6 % 3, SAMPLE_PROGRESSES[place % 6]);
-        let progress = match kind {
-            0 => Progress::None,
-            1 => Progress::Bytes(count),
-            _ => Progress::Whole,
-        };
+        let progress = progress_of(kind, count);
         let case = Case {
             units: [16, 8, 4, 4],
             rejected: false,

@@ -8,7 +8,7 @@
 //!
 //! A part of `session`, whose random calls and numbers it makes.
 
-use super::{Call, DEVICES, INTERRUPTIONS, random_call, told_of};
+use super::{Call, DEVICES, INTERRUPTIONS, random_call, smaller_injections, told_of};
 use crate::common::{self, Comparison, Difference, Input, Layer, Random, bench_row, cuts, smaller_numbers, without};
 use std::cell::RefCell;
 use std::collections::BTreeMap;
@@ -119,16 +119,8 @@ impl Input for Case {
                 found.push(less);
             }
         }
-        if let Some(armed) = self.armed {
-            for op in smaller_numbers(armed.op as u32) {
-                found.push(Self { armed: Some(Injection { op: op as usize, ..armed }), ..self.clone() });
-            }
-            if let Progress::Bytes(count) = armed.progress {
-                for count in smaller_numbers(count) {
-                    let armed = Injection { progress: Progress::Bytes(count), ..armed };
-                    found.push(Self { armed: Some(armed), ..self.clone() });
-                }
-            }
+        for armed in smaller_injections(self.armed) {
+            found.push(Self { armed: Some(armed), ..self.clone() });
         }
         found
     }

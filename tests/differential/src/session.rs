@@ -96,25 +96,30 @@ impl Input for Case {
                 found.push(less);
             }
         }
-        if let Some(armed) = self.armed {
-            for op in smaller_numbers(armed.op as u32) {
-                found.push(Self { armed: Some(Injection { op: op as usize, ..armed }), ..self.clone() });
-            }
-            if let Progress::Bytes(count) = armed.progress {
-                for count in smaller_numbers(count) {
-                    let armed = Injection { progress: Progress::Bytes(count), ..armed };
-                    found.push(Self { armed: Some(armed), ..self.clone() });
-                }
-            }
+        for armed in smaller_injections(self.armed) {
+            found.push(Self { armed: Some(armed), ..self.clone() });
         }
         found
     }
 }
 
+/// An injection with a smaller index or a smaller count.
+fn smaller_injections(armed: Option<Injection>) -> Vec<Injection> {
+    let Some(armed) = armed else { return Vec::new() };
+    let mut found: Vec<_> =
+        smaller_numbers(armed.op as u32).into_iter().map(|op| Injection { op: op as usize, ..armed }).collect();
+    if let Progress::Bytes(count) = armed.progress {
+        let counts = smaller_numbers(count).into_iter();
+        found.extend(counts.map(|count| Injection { progress: Progress::Bytes(count), ..armed }));
+    }
+    found
+}
+
 fn smaller_calls(call: &Call) -> Vec<Call> {
     match call {
         Call::Program(offset, bytes) => {
-            let mut found: Vec<Call> = smaller_numbers(*offset).into_iter().map(|o| Call::Program(o, bytes.clone())).collect();
+            let mut found: Vec<Call> =
+                smaller_numbers(*offset).into_iter().map(|o| Call::Program(o, bytes.clone())).collect();
             for len in smaller_numbers(bytes.len() as u32) {
                 found.push(Call::Program(*offset, bytes[..len as usize].to_vec()));
             }
@@ -394,7 +399,10 @@ impl Ours {
             Some(Injection { op, progress, interruption }) => {
                 let none = matches!(progress, Progress::None | Progress::Bytes(0));
                 (interruption == Interruption::Watchdog && none && op == operations)
-                    || (interruption == Interruption::PowerLoss && progress == Progress::None && op == 0 && operations == 0)
+                    || (interruption == Interruption::PowerLoss
+                        && progress == Progress::None
+                        && op == 0
+                        && operations == 0)
             }
         }
     }
@@ -657,6 +665,15 @@ fn bench_session(
     );
 }
 
+/// The progress that a sample's two codes stand for.
+fn progress_of(kind: u32, count: u32) -> Progress {
+    match kind {
+        0 => Progress::None,
+        1 => Progress::Bytes(count),
+        _ => Progress::Whole,
+    }
+}
+
 // The sample that crates/session_cases replays: the same calls and the same order as in its src/main.rt.
 const SAMPLE_PROGRESSES: [(u32, u32); 6] = [(0, 0), (1, 0), (1, 1), (1, 5), (1, 9), (2, 0)];
 
@@ -664,11 +681,7 @@ fn sample() -> String {
     let mut text = String::new();
     for place in 0..6 * 3 * 6 {
         let (op, cause, (kind, count)) = (place / 18, place / 6 % 3, SAMPLE_PROGRESSES[place % 6]);
-        let progress = match kind {
-            0 => Progress::None,
-            1 => Progress::Bytes(count),
-            _ => Progress::Whole,
-        };
+        let progress = progress_of(kind, count);
         let case = Case {
             units: [16, 8, 4, 4],
             rejected: false,
