@@ -18,8 +18,8 @@ use Rattle.script.specs.Columns.{Columns}
 use Rattle.script.specs.Held.{callFrom, rowsIn, callsIn}
 use Rattle.threaded.specs.Threaded.{Session, Answered}
 use Rattle.writer.specs.Writer.{lineAnswered, Wrote, wrote}
-use Rattle.writer.specs.Run.{anyOutside}
-use Rattle.writer.specs.Scans.{Ready}
+use Rattle.script_rows.specs.Rows.{anyOutside}
+use Rattle.script_rows.specs.Ready.{Ready}
 
 -- the calls of the rows from one on
 abbrev pub rowsAt : (rows : ℕ) → Columns → ℕ → List Call

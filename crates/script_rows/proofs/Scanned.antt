@@ -16,7 +16,7 @@ use Rattle.storage.specs.Geometry.{geometryTest}
 use Rattle.device.proofs.Pairs.{false-left, false-right}
 use Rattle.session.specs.Tests.{sizeTest}
 use Rattle.script.specs.Columns.{Columns}
-use Rattle.writer.specs.Run.{isLetter, allLetters, anyOutside, rowsUneven, runLengths, runContents}
+use Rattle.script_rows.specs.Rows.{isLetter, allLetters, anyOutside, rowsUneven, runLengths, runContents}
 
 -- ---- letters
 

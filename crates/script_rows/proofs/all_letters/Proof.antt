@@ -1,13 +1,13 @@
--- `writer::all_letters` meets its contract: what the rows not yet read say, the column says. Assumes nothing.
+-- `script_rows::all_letters` meets its contract: what the rows not yet read say, the column says. Assumes nothing.
 use mathlib.Core.Path.{_≡_}
 use Prim.Native.Nat.{_-_, _≤_}
 use native.Mathlib.Omega.{arith}
 use lib.ListN.{length, drop}
 use borrow.Author.Needs.{needs}
-use Rattle.writer.specs.Run.{allLetters}
-use Rattle.writer.proofs.Scanned.{letters-not, letters-next, letters-all}
-use Rattle.writer.proofs.all_letters.Statement.{statement}
-use Rattle.writer.proofs.all_letters.Tie as tie
+use Rattle.script_rows.specs.Rows.{allLetters}
+use Rattle.script_rows.proofs.Scanned.{letters-not, letters-next, letters-all}
+use Rattle.script_rows.proofs.all_letters.Statement.{statement}
+use Rattle.script_rows.proofs.all_letters.Tie as tie
 
 abbrev Inv-loop : tie.InvT-loop
 Inv-loop kinds i₀ i = (i ≤ length kinds) × (allLetters kinds ≡ allLetters (drop i kinds))

@@ -1,9 +1,9 @@
--- `writer::run_lengths` meets its contract: the first test that refuses. Assumes nothing.
-use Rattle.writer.proofs.Scanned.{length-units, length-sizes, length-uneven, length-even}
+-- `script_rows::run_lengths` meets its contract: the first test that refuses. Assumes nothing.
+use Rattle.script_rows.proofs.Scanned.{length-units, length-sizes, length-uneven, length-even}
 use Rattle.storage.proofs.Numbers.{geometry-refusal}
 use borrow.Author.Needs.{needs}
-use Rattle.writer.proofs.run_lengths.Statement.{statement}
-use Rattle.writer.proofs.run_lengths.Tie as tie
+use Rattle.script_rows.proofs.run_lengths.Statement.{statement}
+use Rattle.script_rows.proofs.run_lengths.Tie as tie
 
 check-requires : tie.Need-check-requires
 check-requires c κs = search needs

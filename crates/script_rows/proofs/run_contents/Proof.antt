@@ -1,12 +1,12 @@
--- `writer::run_contents` meets its contract: the first test that refuses. Assumes nothing.
+-- `script_rows::run_contents` meets its contract: the first test that refuses. Assumes nothing.
 use mathlib.Core.Path.{sym, _∙_}
 use native.Mathlib.Omega.{arith}
 use lib.ListN.{length-take}
 use lib.Seq.{length-take-le}
-use Rattle.writer.proofs.Scanned.{content-unknown, content-short, content-fits}
+use Rattle.script_rows.proofs.Scanned.{content-unknown, content-short, content-fits}
 use borrow.Author.Needs.{needs}
-use Rattle.writer.proofs.run_contents.Statement.{statement}
-use Rattle.writer.proofs.run_contents.Tie as tie
+use Rattle.script_rows.proofs.run_contents.Statement.{statement}
+use Rattle.script_rows.proofs.run_contents.Tie as tie
 
 lower-requires : tie.Need-lower-requires
 lower-requires c κs = search needs

@@ -1,13 +1,13 @@
--- `writer::any_outside` meets its contract: what the rows not yet read say, the columns say. Assumes nothing.
+-- `script_rows::any_outside` meets its contract: what the rows not yet read say, the columns say. Assumes nothing.
 use mathlib.Core.Path.{_≡_, sym, _∙_}
 use Prim.Native.Nat.{_-_, _≤_}
 use native.Mathlib.Omega.{arith}
 use lib.ListN.{length, drop}
 use borrow.Author.Needs.{needs}
-use Rattle.writer.specs.Run.{anyOutside}
-use Rattle.writer.proofs.Scanned.{outside-found, outside-next, outside-none}
-use Rattle.writer.proofs.any_outside.Statement.{statement}
-use Rattle.writer.proofs.any_outside.Tie as tie
+use Rattle.script_rows.specs.Rows.{anyOutside}
+use Rattle.script_rows.proofs.Scanned.{outside-found, outside-next, outside-none}
+use Rattle.script_rows.proofs.any_outside.Statement.{statement}
+use Rattle.script_rows.proofs.any_outside.Tie as tie
 
 abbrev Inv-loop : tie.InvT-loop
 Inv-loop kinds seconds starts pool i₀ i = (i ≤ length kinds) × (anyOutside pool kinds seconds starts ≡ anyOutside pool (drop i kinds) (drop i seconds) (drop i starts))

@@ -1,0 +1,3 @@
+-- Laws of the tests of a script's rows.
+pub mod Scanned
+pub mod Numbers
