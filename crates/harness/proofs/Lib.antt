@@ -1,2 +1,4 @@
 -- Document 01's worked example of a sweep, computed.
 pub mod Examples
+pub mod Below
+pub mod OneLine
