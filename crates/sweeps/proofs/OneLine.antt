@@ -40,7 +40,7 @@ use Rattle.threaded.specs.Threaded.{Session, Answered, afterWrite, afterBarrier
 use Rattle.script.specs.declared.Head.{Head}
 use Rattle.script.specs.Calls.{Call, begin, end, mark, program, erase, barrier}
 use Rattle.writer.specs.Writer.{lineAnswered}
-use Rattle.harness.specs.Sweep.{toldBy}
+use Rattle.sweeps.specs.Sweep.{toldBy}
 
 -- ---- lines that mark
 
