@@ -1,0 +1,3 @@
+-- Laws of a sweep opened.
+pub mod Behind
+pub mod Parts
