@@ -93,3 +93,13 @@ module _ (g : Geometry) (media copy : ℕ) (uneven short : Bool) (rows : ℕ) (k
       room = ltb-false (length (k .kinds)) rows (false-right short (ltb (length (k .kinds)) rows) two-pass);
       inside = false-right (short || ltb (length (k .kinds)) rows) outside contents-pass;
     }
+
+-- rows that are not refused beside more columns are not refused beside fewer
+pub fewer : (g : Geometry) (media copy : ℕ) (u v s w : Bool) (rows : ℕ) (k : Columns) → rowsNumber g media copy (u || v) (s || w) rows k ≡ 0
+    → rowsNumber g media copy u s rows k ≡ 0
+fewer g media copy u v s w rows k e =
+    let no : (u || v) ≡ false = lengths-known g media copy (u || v) (s || w) rows k e .others in
+    let long : (s || w) ≡ false = long-enough g media copy (u || v) (s || w) rows k e in
+    let pu : u ≡ (u || v) = false-left u v no ∙ sym no in
+    let ps : s ≡ (s || w) = false-left s w long ∙ sym long in
+    (λ i. rowsNumber g media copy (pu i) (ps i) rows k) ∙ e
