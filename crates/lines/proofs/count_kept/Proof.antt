@@ -41,14 +41,21 @@ loop-less c = search needs
 loop-again : tie.Need-loop-again Inv-loop μ-loop
 loop-again c =
     let l = c .before .before .before .before .before in
-    let h : l .loop .i < length (l .before .before .before .before .args .ids .now) = omega arith in
+    let start = l .before .before .before .before in
+    let a = start .args in
+    let h : l .loop .i < length (a .ids .now) = omega arith in
+    let e = c .before .is-kept .ensures in
     ⊎-elim
-    (λ w. (omega arith, omega arith, omega (arith, l .loop .inv .2, ap length (kept-row (c .before .before .before .before .before .before .before .before .before .args .ids .now) (c .before .before .before .before .before .before .before .before .before .args .states .now) (c .before .before .before .before .before .before .before .before .before .args .torn .now) (c .before .before .before .before .before .before .before .before .before .pre .0) (c .before .before .before .before .before .before .before .before .before .pre .1) (l .loop .i) _ (c .before .is-kept .ensures) h (w .0 .taken)))))
-    (λ w. (omega arith, omega arith, omega (arith, l .loop .inv .2, ap length (left-row (c .before .before .before .before .before .before .before .before .before .args .ids .now) (c .before .before .before .before .before .before .before .before .before .args .states .now) (c .before .before .before .before .before .before .before .before .before .args .torn .now) (c .before .before .before .before .before .before .before .before .before .pre .0) (c .before .before .before .before .before .before .before .before .before .pre .1) (l .loop .i) _ (c .before .is-kept .ensures) h (w .0 .left)))))
+    (λ w. (omega arith, omega arith, omega (arith, l .loop .inv .2, ap length (kept-row (a .ids .now) (a .states .now) (a .torn .now) (start .pre .0) (start .pre .1) (l .loop .i) _ e h (w .0 .taken)))))
+    (λ w. (omega arith, omega arith, omega (arith, l .loop .inv .2, ap length (left-row (a .ids .now) (a .states .now) (a .torn .now) (start .pre .0) (start .pre .1) (l .loop .i) _ e h (w .0 .left)))))
     (c .if1 .came)
 
 returns : tie.Need-returns Inv-loop μ-loop
-returns c = omega (arith, c .before .loop .inv .2, ap length (kept-end (c .before .before .before .before .before .args .ids .now) (c .before .before .before .before .before .args .states .now) (c .before .before .before .before .before .args .torn .now) (c .before .before .before .before .before .pre .0) (c .before .before .before .before .before .pre .1) (c .before .loop .i) (c .loop-test .left)))
+returns c =
+    let start = c .before .before .before .before .before in
+    let a = start .args in
+    omega
+    (arith, c .before .loop .inv .2, ap length (kept-end (a .ids .now) (a .states .now) (a .torn .now) (start .pre .0) (start .pre .1) (c .before .loop .i) (c .loop-test .left)))
 
 pub count-kept-spec : {M : Type 1} → statement M
 count-kept-spec =

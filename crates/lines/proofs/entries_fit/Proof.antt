@@ -23,16 +23,29 @@ fits-requires : tie.Need-fits-requires Inv-loop μ-loop
 fits-requires c κs = search needs
 
 returns : tie.Need-returns Inv-loop μ-loop
-returns c = fit-not (c .before .before .before .before .before .args .size) (c .before .before .before .before .before .args .at) (c .before .before .before .before .before .args .room) _ (c .before .fits2 .ensures) (length (flatten (ledgerPieces (ledgerOf (c .before .before .before .before .before .args .ids .now) (c .before .before .before .before .before .args .states .now) (c .before .before .before .before .before .args .torn .now))))) (c .if1 .taken)
+returns c =
+    let start = c .before .before .before .before .before in
+    let a = start .args in
+    fit-not (a .size) (a .at) (a .room) _ (c .before .fits2 .ensures)
+    (length (flatten (ledgerPieces (ledgerOf (a .ids .now) (a .states .now) (a .torn .now))))) (c .if1 .taken)
 
 sub-left : tie.Need-sub-left Inv-loop μ-loop
-sub-left c = omega (arith, fit-room (c .before .before .before .before .before .args .size) (c .before .before .before .before .before .args .at) (c .before .before .before .before .before .args .room) _ (c .before .fits2 .ensures) 0 (c .if1 .left))
+sub-left c =
+    let start = c .before .before .before .before .before in
+    let a = start .args in
+    omega (arith, fit-room (a .size) (a .at) (a .room) _ (c .before .fits2 .ensures) 0 (c .if1 .left))
 
 sub-left-2 : tie.Need-sub-left-2 Inv-loop μ-loop
-sub-left-2 c = omega (arith, fit-room (c .before .before .before .before .before .args .size) (c .before .before .before .before .before .args .at) (c .before .before .before .before .before .args .room) _ (c .before .fits2 .ensures) 0 (c .if1 .left))
+sub-left-2 c =
+    let start = c .before .before .before .before .before in
+    let a = start .args in
+    omega (arith, fit-room (a .size) (a .at) (a .room) _ (c .before .fits2 .ensures) 0 (c .if1 .left))
 
 loop-holds : tie.Need-loop-holds Inv-loop μ-loop
-loop-holds c = (omega arith, fit-start (c .before .before .before .before .before .args .size) (c .before .before .before .before .before .args .at) (c .before .before .before .before .before .args .room) _ (c .before .fits2 .ensures) (length (flatten (ledgerPieces (ledgerOf (c .before .before .before .before .before .args .ids .now) (c .before .before .before .before .before .args .states .now) (c .before .before .before .before .before .args .torn .now))))) (c .if1 .left))
+loop-holds c =
+    let start = c .before .before .before .before .before in
+    let a = start .args in
+    (omega arith, fit-start (a .size) (a .at) (a .room) _ (c .before .fits2 .ensures) (length (flatten (ledgerPieces (ledgerOf (a .ids .now) (a .states .now) (a .torn .now))))) (c .if1 .left))
 
 mul-entry-size : tie.Need-mul-entry-size Inv-loop μ-loop
 mul-entry-size c = search needs
@@ -50,7 +63,12 @@ entry-size-requires : tie.Need-entry-size-requires Inv-loop μ-loop
 entry-size-requires c κs = search needs
 
 returns-2 : tie.Need-returns-2 Inv-loop μ-loop
-returns-2 c = fit-out _ _ _ (c .before .before .before .before .before .before .loop .inv .1) _ _ (rows-size _ _ _ (c .before .before .before .before .before .before .before .before .before .before .before .before .pre .0) (c .before .before .before .before .before .before .before .before .before .before .before .before .pre .1) _ _ (c .before .entry-size .ensures) (c .before .before .before .before .before .loop-test .taken)) (c .if2 .taken)
+returns-2 c =
+    let at-loop-test = c .before .before .before .before .before in
+    let at-loop = at-loop-test .before in
+    let start = at-loop .before .before .before .before .before .before in
+    fit-out _ _ _ (at-loop .loop .inv .1) _ _
+    (rows-size _ _ _ (start .pre .0) (start .pre .1) _ _ (c .before .entry-size .ensures) (at-loop-test .loop-test .taken)) (c .if2 .taken)
 
 add-i : tie.Need-add-i Inv-loop μ-loop
 add-i c = search needs
@@ -59,10 +77,16 @@ loop-less : tie.Need-loop-less Inv-loop μ-loop
 loop-less c = search needs
 
 loop-again : tie.Need-loop-again Inv-loop μ-loop
-loop-again c = (omega arith, fit-more _ _ _ (c .before .before .before .before .before .before .loop .inv .1) _ _ (rows-size _ _ _ (c .before .before .before .before .before .before .before .before .before .before .before .before .pre .0) (c .before .before .before .before .before .before .before .before .before .before .before .before .pre .1) _ _ (c .before .entry-size .ensures) (c .before .before .before .before .before .loop-test .taken)) (c .if2 .left))
+loop-again c =
+    let at-loop-test = c .before .before .before .before .before in
+    let at-loop = at-loop-test .before in
+    let start = at-loop .before .before .before .before .before .before in
+    (omega arith, fit-more _ _ _ (at-loop .loop .inv .1) _ _ (rows-size _ _ _ (start .pre .0) (start .pre .1) _ _ (c .before .entry-size .ensures) (at-loop-test .loop-test .taken)) (c .if2 .left))
 
 returns-3 : tie.Need-returns-3 Inv-loop μ-loop
-returns-3 c = fit-end _ _ _ (c .before .loop .inv .1) (rows-size-end _ _ _ (c .before .before .before .before .before .before .before .pre .0) (c .before .before .before .before .before .before .before .pre .1) _ (c .loop-test .left))
+returns-3 c =
+    let start = c .before .before .before .before .before .before .before in
+    fit-end _ _ _ (c .before .loop .inv .1) (rows-size-end _ _ _ (start .pre .0) (start .pre .1) _ (c .loop-test .left))
 
 pub entries-fit-spec : {M : Type 1} → statement M
 entries-fit-spec =

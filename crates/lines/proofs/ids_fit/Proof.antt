@@ -50,7 +50,12 @@ add-more : tie.Need-add-more Inv-loop μ-loop
 add-more c = search needs
 
 returns-2 : tie.Need-returns-2 Inv-loop μ-loop
-returns-2 c = fit-out _ _ _ (c .before .before .before .before .before .loop .inv .1) _ _ (ids-size _ _ _ (rw (c .before .before .wide .ensures) at (c .before .places .ensures)) (c .before .before .before .before .loop-test .taken)) (c .if2 .taken)
+returns-2 c =
+    let at-wide = c .before .before in
+    let at-loop-test = at-wide .before .before in
+    let at-loop = at-loop-test .before in
+    fit-out _ _ _ (at-loop .loop .inv .1) _ _
+    (ids-size _ _ _ (rw (at-wide .wide .ensures) at (c .before .places .ensures)) (at-loop-test .loop-test .taken)) (c .if2 .taken)
 
 add-i : tie.Need-add-i Inv-loop μ-loop
 add-i c = search needs
@@ -59,7 +64,11 @@ loop-less : tie.Need-loop-less Inv-loop μ-loop
 loop-less c = search needs
 
 loop-again : tie.Need-loop-again Inv-loop μ-loop
-loop-again c = (omega arith, fit-more _ _ _ (c .before .before .before .before .before .loop .inv .1) _ _ (ids-size _ _ _ (rw (c .before .before .wide .ensures) at (c .before .places .ensures)) (c .before .before .before .before .loop-test .taken)) (c .if2 .left))
+loop-again c =
+    let at-wide = c .before .before in
+    let at-loop-test = at-wide .before .before in
+    let at-loop = at-loop-test .before in
+    (omega arith, fit-more _ _ _ (at-loop .loop .inv .1) _ _ (ids-size _ _ _ (rw (at-wide .wide .ensures) at (c .before .places .ensures)) (at-loop-test .loop-test .taken)) (c .if2 .left))
 
 returns-3 : tie.Need-returns-3 Inv-loop μ-loop
 returns-3 c = fit-end _ _ _ (c .before .loop .inv .1) (ids-size-end _ _ (c .loop-test .left))

@@ -20,7 +20,13 @@ ids-fit-requires : tie.Need-ids-fit-requires
 ids-fit-requires c κs = search needs
 
 returns : tie.Need-returns
-returns c = judge-short (c .before .before .before .before .before .before .args .place) (c .before .before .before .before .before .before .args .verdict) (c .before .before .before .before .before .before .args .history .now) (c .before .before .before .before .before .before .args .at) (c .before .before .before .before .before .before .args .out .now) _ _ (c .before .before .before .places .ensures) (c .before .before .places2 .ensures) _ (c .before .ids-fit .ensures) (c .if1 .taken)
+returns c =
+    let at-places2 = c .before .before in
+    let at-places = at-places2 .before in
+    let start = at-places .before .before .before in
+    let a = start .args in
+    judge-short (a .place) (a .verdict) (a .history .now) (a .at) (a .out .now) _ _ (at-places .places .ensures) (at-places2 .places2 .ensures) _
+    (c .before .ids-fit .ensures) (c .if1 .taken)
 
 put-number-requires : tie.Need-put-number-requires
 put-number-requires c κs = search needs
@@ -39,8 +45,19 @@ same-length c = search needs
 
 returns-2 : tie.Need-returns-2
 returns-2 c =
-    judge-done (c .before .before .before .before .before .before .before .before .before .before .before .before .before .before .before .before .before .before .before .before .before .before .args .place) (c .before .before .before .before .before .before .before .before .before .before .before .before .before .before .before .before .before .before .before .before .before .before .args .verdict) (c .before .before .before .before .before .before .before .before .before .before .before .before .before .before .before .before .before .before .before .before .before .before .args .history .now) (c .before .before .before .before .before .before .before .before .before .before .before .before .before .before .before .before .before .before .before .before .before .before .args .at) (c .before .before .before .before .before .before .before .before .before .before .before .before .before .before .before .before .before .before .before .before .before .before .args .out .now) _ _ (c .before .before .before .before .before .before .before .before .before .before .before .before .before .before .before .before .before .before .before .places .ensures) (c .before .before .before .before .before .before .before .before .before .before .before .before .before .before .before .before .before .before .places2 .ensures) _ (c .before .before .before .before .before .before .before .before .before .before .before .before .before .before .before .before .before .ids-fit .ensures) (c .before .before .before .before .before .before .before .before .before .before .before .before .before .before .before .before .if1 .left) _ _ _ _ _
-    (c .before .before .before .before .before .before .before .before .before .before .before .before .before .before .put-number .ensures) (c .before .before .before .before .before .before .before .before .before .before .put-field .ensures) (c .before .before .before .before .before .before .put-ids .ensures) (c .before .before .put-byte .ensures)
+    let at-put-byte = c .before .before in
+    let at-put-ids = at-put-byte .before .before .before .before in
+    let at-put-field = at-put-ids .before .before .before .before in
+    let at-put-number = at-put-field .before .before .before .before in
+    let at-if1 = at-put-number .before .before in
+    let at-ids-fit = at-if1 .before in
+    let at-places2 = at-ids-fit .before in
+    let at-places = at-places2 .before in
+    let start = at-places .before .before .before in
+    let a = start .args in
+    judge-done (a .place) (a .verdict) (a .history .now) (a .at) (a .out .now) _ _ (at-places .places .ensures) (at-places2 .places2 .ensures) _
+    (at-ids-fit .ids-fit .ensures) (at-if1 .if1 .left) _ _ _ _ _ (at-put-number .put-number .ensures) (at-put-field .put-field .ensures)
+    (at-put-ids .put-ids .ensures) (at-put-byte .put-byte .ensures)
 
 pub judge-line-spec : {M : Type 1} → statement M
 judge-line-spec =

@@ -41,13 +41,20 @@ loop-less : tie.Need-loop-less Inv-loop μ-loop
 loop-less c = search needs
 
 loop-again : tie.Need-loop-again Inv-loop μ-loop
-loop-again c = (omega arith, c .before .out .given ∙ c .before .before .before .before .before .before .before .before .loop .inv .1, rows-put _ _ _ (c .before .before .before .before .before .before .before .before .before .before .before .before .before .pre .0) (c .before .before .before .before .before .before .before .before .before .before .before .before .before .pre .1) _ _ _ (c .before .before .before .before .before .before .before .before .loop .inv .2) _ (c .before .before .before .before .before .before .before .loop-test .taken) (c .before .before .put-entry .ensures))
+loop-again c =
+    let at-put-entry = c .before .before in
+    let at-loop-test = at-put-entry .before .before .before .before .before in
+    let at-loop = at-loop-test .before in
+    let start = at-loop .before .before .before .before .before in
+    (omega arith, c .before .out .given ∙ at-loop .loop .inv .1, rows-put _ _ _ (start .pre .0) (start .pre .1) _ _ _ (at-loop .loop .inv .2) _ (at-loop-test .loop-test .taken) (at-put-entry .put-entry .ensures))
 
 same-length : tie.Need-same-length Inv-loop μ-loop
 same-length c = c .before .loop .inv .1
 
 returns : tie.Need-returns Inv-loop μ-loop
-returns c = rows-put-end _ _ _ (c .before .before .before .before .before .before .pre .0) (c .before .before .before .before .before .before .pre .1) _ _ _ (c .before .loop .inv .2) (c .loop-test .left)
+returns c =
+    let start = c .before .before .before .before .before .before in
+    rows-put-end _ _ _ (start .pre .0) (start .pre .1) _ _ _ (c .before .loop .inv .2) (c .loop-test .left)
 
 pub put-entries-spec : {M : Type 1} → statement M
 put-entries-spec =

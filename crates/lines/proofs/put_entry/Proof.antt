@@ -24,16 +24,30 @@ same-length c = search needs
 
 returns : tie.Need-returns
 returns c =
-    entry-torn (c .before .before .before .before .before .before .before .before .before .before .before .before .before .before .before .before .args .id) (c .before .before .before .before .before .before .before .before .before .before .before .before .before .before .before .before .args .state) (c .before .before .before .before .before .before .before .before .before .before .before .before .before .before .before .before .args .torn) _ (c .before .before .before .before .before .before .before .before .before .before .before .before .before .before .state-letter .ensures) _ (c .before .before .before .before .before .before .before .before .before .before .before .before .before .is-torn .ensures) _ _ _
-    (c .before .before .before .before .before .before .before .before .before .before .before .put-field .ensures) (c .before .before .before .before .before .before .before .put-byte .ensures) (c .before .before .before .before .if1 .taken) _ (c .before .before .put-byte2 .ensures)
+    let at-put-byte2 = c .before .before in
+    let at-if1 = at-put-byte2 .before .before in
+    let at-put-byte = at-if1 .before .before .before in
+    let at-put-field = at-put-byte .before .before .before .before in
+    let at-is-torn = at-put-field .before .before in
+    let at-state-letter = at-is-torn .before in
+    let start = at-state-letter .before .before in
+    let a = start .args in
+    entry-torn (a .id) (a .state) (a .torn) _ (at-state-letter .state-letter .ensures) _ (at-is-torn .is-torn .ensures) _ _ _
+    (at-put-field .put-field .ensures) (at-put-byte .put-byte .ensures) (at-if1 .if1 .taken) _ (at-put-byte2 .put-byte2 .ensures)
 
 same-length-2 : tie.Need-same-length-2
 same-length-2 c = search needs
 
 returns-2 : tie.Need-returns-2
 returns-2 c =
-    entry-whole (c .before .before .before .before .before .before .before .before .before .before .before .before .args .id) (c .before .before .before .before .before .before .before .before .before .before .before .before .args .state) (c .before .before .before .before .before .before .before .before .before .before .before .before .args .torn) _ (c .before .before .before .before .before .before .before .before .before .before .state-letter .ensures) _ (c .before .before .before .before .before .before .before .before .before .is-torn .ensures) _ _ _
-    (c .before .before .before .before .before .before .before .put-field .ensures) (c .before .before .before .put-byte .ensures) (c .if1 .left)
+    let at-put-byte = c .before .before .before in
+    let at-put-field = at-put-byte .before .before .before .before in
+    let at-is-torn = at-put-field .before .before in
+    let at-state-letter = at-is-torn .before in
+    let start = at-state-letter .before .before in
+    let a = start .args in
+    entry-whole (a .id) (a .state) (a .torn) _ (at-state-letter .state-letter .ensures) _ (at-is-torn .is-torn .ensures) _ _ _
+    (at-put-field .put-field .ensures) (at-put-byte .put-byte .ensures) (c .if1 .left)
 
 pub put-entry-spec : {M : Type 1} → statement M
 put-entry-spec =

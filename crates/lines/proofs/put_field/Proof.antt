@@ -14,7 +14,10 @@ same-length : tie.Need-same-length
 same-length c = search needs
 
 returns : tie.Need-returns
-returns c = two-pieces _ _ _ _ _ (c .before .before .before .before .before .before .put-byte .ensures) (c .before .before .put-number .ensures)
+returns c =
+    let at-put-number = c .before .before in
+    let at-put-byte = at-put-number .before .before .before .before in
+    two-pieces _ _ _ _ _ (at-put-byte .put-byte .ensures) (at-put-number .put-number .ensures)
 
 pub put-field-spec : {M : Type 1} → statement M
 put-field-spec = tie.close (tie.spec put-byte-requires put-number-requires same-length returns)

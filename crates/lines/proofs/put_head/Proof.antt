@@ -24,8 +24,15 @@ same-length c = search needs
 
 returns : tie.Need-returns
 returns c =
-    head-put (c .before .before .before .before .before .before .before .before .before .before .before .before .before .before .before .before .before .before .args .place) (c .before .before .before .before .before .before .before .before .before .before .before .before .before .before .before .before .before .before .args .armed) (c .before .before .before .before .before .before .before .before .before .before .before .before .before .before .before .before .before .before .args .stop) (c .before .before .before .before .before .before .before .before .before .before .before .before .before .before .before .before .before .before .args .operations) _ (c .before .before .before .before .before .before .before .before .before .before .before .before .before .before .before .before .stop-letter .ensures) _ _ _ _ _
-    (c .before .before .before .before .before .before .before .before .before .before .before .before .before .before .put-number .ensures) (c .before .before .before .before .before .before .before .before .before .before .put-point .ensures) (c .before .before .before .before .before .before .put-letter .ensures) (c .before .before .put-field .ensures)
+    let at-put-field = c .before .before in
+    let at-put-letter = at-put-field .before .before .before .before in
+    let at-put-point = at-put-letter .before .before .before .before in
+    let at-put-number = at-put-point .before .before .before .before in
+    let at-stop-letter = at-put-number .before .before in
+    let start = at-stop-letter .before .before in
+    let a = start .args in
+    head-put (a .place) (a .armed) (a .stop) (a .operations) _ (at-stop-letter .stop-letter .ensures) _ _ _ _ _ (at-put-number .put-number .ensures)
+    (at-put-point .put-point .ensures) (at-put-letter .put-letter .ensures) (at-put-field .put-field .ensures)
 
 pub put-head-spec : {M : Type 1} → statement M
 put-head-spec =

@@ -39,7 +39,12 @@ loop-less : tie.Need-loop-less Inv-loop μ-loop
 loop-less c = search needs
 
 loop-again : tie.Need-loop-again Inv-loop μ-loop
-loop-again c = (omega arith, c .before .out .given ∙ c .before .before .before .before .before .before .before .loop .inv .1, ids-put _ _ _ _ _ (c .before .before .before .before .before .before .before .loop .inv .2) (c .before .before .before .before .before .before .loop-test .taken) (rw (c .before .before .before .before .wide .ensures) at (c .before .before .put-field .ensures)))
+loop-again c =
+    let at-put-field = c .before .before in
+    let at-wide = at-put-field .before .before in
+    let at-loop-test = at-wide .before .before in
+    let at-loop = at-loop-test .before in
+    (omega arith, c .before .out .given ∙ at-loop .loop .inv .1, ids-put _ _ _ _ _ (at-loop .loop .inv .2) (at-loop-test .loop-test .taken) (rw (at-wide .wide .ensures) at (at-put-field .put-field .ensures)))
 
 same-length : tie.Need-same-length Inv-loop μ-loop
 same-length c = c .before .loop .inv .1

@@ -14,7 +14,10 @@ same-length : tie.Need-same-length
 same-length c = search needs
 
 returns : tie.Need-returns
-returns c = two-pieces _ _ _ _ _ (c .before .before .before .before .before .before .put-byte .ensures) (c .before .before .put-byte2 .ensures)
+returns c =
+    let at-put-byte2 = c .before .before in
+    let at-put-byte = at-put-byte2 .before .before .before .before in
+    two-pieces _ _ _ _ _ (at-put-byte .put-byte .ensures) (at-put-byte2 .put-byte2 .ensures)
 
 pub put-letter-spec : {M : Type 1} → statement M
 put-letter-spec = tie.close (tie.spec put-byte-requires put-byte-requires-2 same-length returns)

@@ -17,13 +17,17 @@ same-length : tie.Need-same-length
 same-length c = search needs
 
 returns : tie.Need-returns
-returns c = number-put _ _ _ _ _ (c .before .before .before .before .before .print-number .ensures) _ (c .before .printed .given .1)
+returns c =
+    let at-print-number = c .before .before .before .before .before in
+    number-put _ _ _ _ _ (at-print-number .print-number .ensures) _ (c .before .printed .given .1)
 
 same-length-2 : tie.Need-same-length-2
 same-length-2 c = search needs
 
 returns-2 : tie.Need-returns-2
-returns-2 c = no-number _ _ _ _ _ (c .before .before .before .before .print-number .ensures) (c .enum-told .given .1)
+returns-2 c =
+    let at-print-number = c .before .before .before .before in
+    no-number _ _ _ _ _ (at-print-number .print-number .ensures) (c .enum-told .given .1)
 
 pub put-number-spec : {M : Type 1} → statement M
 put-number-spec =

@@ -38,8 +38,12 @@ same-length c = search needs
 returns : tie.Need-returns
 unfolding tabbed
 returns c =
-    rw (c .before .before .before .before .before .before .before .before .before .before .before .before .enum-told .given .1)
-    (joint _ _ _ _ _ (joint _ _ _ _ _ (c .before .before .before .before .before .before .before .before .before .before .put-letter .ensures) (c .before .before .before .before .before .before .put-letter2 .ensures)) (c .before .before .put-letter3 .ensures))
+    let at-put-letter3 = c .before .before in
+    let at-put-letter2 = at-put-letter3 .before .before .before .before in
+    let at-put-letter = at-put-letter2 .before .before .before .before in
+    let at-enum-told = at-put-letter .before .before in
+    rw (at-enum-told .enum-told .given .1)
+    (joint _ _ _ _ _ (joint _ _ _ _ _ (at-put-letter .put-letter .ensures) (at-put-letter2 .put-letter2 .ensures)) (at-put-letter3 .put-letter3 .ensures))
 
 same-length-2 : tie.Need-same-length-2
 same-length-2 c = search needs
@@ -47,8 +51,13 @@ same-length-2 c = search needs
 returns-2 : tie.Need-returns-2
 unfolding tabbed
 returns-2 c =
-    rw (c .before .before .before .before .before .before .before .before .before .before .before .before .before .before .armed .given .1, ← c .before .before .before .before .before .before .before .before .before .before .before .before .letter-of .ensures)
-    (joint _ _ _ _ _ (joint _ _ _ _ _ (c .before .before .before .before .before .before .before .before .before .before .put-letter4 .ensures) (c .before .before .before .before .before .before .put-field .ensures)) (c .before .before .put-progress .ensures))
+    let at-put-progress = c .before .before in
+    let at-put-field = at-put-progress .before .before .before .before in
+    let at-put-letter4 = at-put-field .before .before .before .before in
+    let at-letter-of = at-put-letter4 .before .before in
+    let at-armed = at-letter-of .before .before in
+    rw (at-armed .armed .given .1, ← at-letter-of .letter-of .ensures)
+    (joint _ _ _ _ _ (joint _ _ _ _ _ (at-put-letter4 .put-letter4 .ensures) (at-put-field .put-field .ensures)) (at-put-progress .put-progress .ensures))
 
 pub put-point-spec : {M : Type 1} → statement M
 put-point-spec =

@@ -28,19 +28,28 @@ same-length : tie.Need-same-length
 same-length c = search needs
 
 returns : tie.Need-returns
-returns c = rw (c .before .before .before .before .enum-told .given .1) (c .before .before .put-letter .ensures)
+returns c =
+    let at-put-letter = c .before .before in
+    let at-enum-told = at-put-letter .before .before in
+    rw (at-enum-told .enum-told .given .1) (at-put-letter .put-letter .ensures)
 
 same-length-2 : tie.Need-same-length-2
 same-length-2 c = search needs
 
 returns-2 : tie.Need-returns-2
-returns-2 c = rw (c .before .before .before .before .before .progress .given .1) (c .before .before .put-field .ensures)
+returns-2 c =
+    let at-put-field = c .before .before in
+    let at-progress = at-put-field .before .before .before in
+    rw (at-progress .progress .given .1) (at-put-field .put-field .ensures)
 
 same-length-3 : tie.Need-same-length-3
 same-length-3 c = search needs
 
 returns-3 : tie.Need-returns-3
-returns-3 c = rw (c .before .before .before .before .enum-told2 .given .1) (c .before .before .put-letter2 .ensures)
+returns-3 c =
+    let at-put-letter2 = c .before .before in
+    let at-enum-told2 = at-put-letter2 .before .before in
+    rw (at-enum-told2 .enum-told2 .given .1) (at-put-letter2 .put-letter2 .ensures)
 
 pub put-progress-spec : {M : Type 1} → statement M
 put-progress-spec =

@@ -31,7 +31,11 @@ loop-less : tie.Need-loop-less Inv-loop μ-loop
 loop-less c = search needs
 
 loop-again : tie.Need-loop-again Inv-loop μ-loop
-loop-again c = (omega arith, c .before .out .given ∙ c .before .before .before .before .before .before .loop .inv .1, word-put _ _ _ _ _ (c .before .before .before .before .before .before .loop .inv .2) (c .before .before .before .before .before .loop-test .taken) (c .before .before .put-byte .ensures))
+loop-again c =
+    let at-put-byte = c .before .before in
+    let at-loop-test = at-put-byte .before .before .before in
+    let at-loop = at-loop-test .before in
+    (omega arith, c .before .out .given ∙ at-loop .loop .inv .1, word-put _ _ _ _ _ (at-loop .loop .inv .2) (at-loop-test .loop-test .taken) (at-put-byte .put-byte .ensures))
 
 same-length : tie.Need-same-length Inv-loop μ-loop
 same-length c = c .before .loop .inv .1

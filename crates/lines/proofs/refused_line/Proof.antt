@@ -20,7 +20,13 @@ fits-requires : tie.Need-fits-requires
 fits-requires c κs = search needs
 
 returns : tie.Need-returns
-returns c = refused-short (c .before .before .before .before .before .args .number) (c .before .before .before .before .before .args .line) (c .before .before .before .before .before .args .at) (c .before .before .before .before .before .args .out .now) _ _ (c .before .before .before .places .ensures) (c .before .before .places2 .ensures) _ (c .before .fits2 .ensures) (c .if1 .taken)
+returns c =
+    let at-places2 = c .before .before in
+    let at-places = at-places2 .before in
+    let start = at-places .before .before in
+    let a = start .args in
+    refused-short (a .number) (a .line) (a .at) (a .out .now) _ _ (at-places .places .ensures) (at-places2 .places2 .ensures) _
+    (c .before .fits2 .ensures) (c .if1 .taken)
 
 slice-aggregate-put-word : tie.Need-slice-aggregate-put-word
 slice-aggregate-put-word c = search needs
@@ -42,8 +48,19 @@ same-length c = search needs
 
 returns-2 : tie.Need-returns-2
 returns-2 c =
-    refused-done (c .before .before .before .before .before .before .before .before .before .before .before .before .before .before .before .before .before .before .before .before .before .before .args .number) (c .before .before .before .before .before .before .before .before .before .before .before .before .before .before .before .before .before .before .before .before .before .before .args .line) (c .before .before .before .before .before .before .before .before .before .before .before .before .before .before .before .before .before .before .before .before .before .before .args .at) (c .before .before .before .before .before .before .before .before .before .before .before .before .before .before .before .before .before .before .before .before .before .before .args .out .now) _ _ (c .before .before .before .before .before .before .before .before .before .before .before .before .before .before .before .before .before .before .before .before .places .ensures) (c .before .before .before .before .before .before .before .before .before .before .before .before .before .before .before .before .before .before .before .places2 .ensures) _ (c .before .before .before .before .before .before .before .before .before .before .before .before .before .before .before .before .before .before .fits2 .ensures) (c .before .before .before .before .before .before .before .before .before .before .before .before .before .before .before .before .before .if1 .left) _ _ _ _ _
-    (c .before .before .before .before .before .before .before .before .before .before .before .before .before .before .put-word .ensures) (c .before .before .before .before .before .before .before .before .before .before .put-field .ensures) (c .before .before .before .before .before .before .put-field2 .ensures) (c .before .before .put-byte .ensures)
+    let at-put-byte = c .before .before in
+    let at-put-field2 = at-put-byte .before .before .before .before in
+    let at-put-field = at-put-field2 .before .before .before .before in
+    let at-put-word = at-put-field .before .before .before .before in
+    let at-if1 = at-put-word .before .before .before in
+    let at-fits2 = at-if1 .before in
+    let at-places2 = at-fits2 .before in
+    let at-places = at-places2 .before in
+    let start = at-places .before .before in
+    let a = start .args in
+    refused-done (a .number) (a .line) (a .at) (a .out .now) _ _ (at-places .places .ensures) (at-places2 .places2 .ensures) _
+    (at-fits2 .fits2 .ensures) (at-if1 .if1 .left) _ _ _ _ _ (at-put-word .put-word .ensures) (at-put-field .put-field .ensures)
+    (at-put-field2 .put-field2 .ensures) (at-put-byte .put-byte .ensures)
 
 pub refused-line-spec : {M : Type 1} → statement M
 refused-line-spec =

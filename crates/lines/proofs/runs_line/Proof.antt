@@ -14,7 +14,11 @@ fits-requires : tie.Need-fits-requires
 fits-requires c κs = search needs
 
 returns : tie.Need-returns
-returns c = runs-short (c .before .before .before .before .args .count) (c .before .before .before .before .args .at) (c .before .before .before .before .args .out .now) _ (c .before .before .places .ensures) _ (c .before .fits2 .ensures) (c .if1 .taken)
+returns c =
+    let at-places = c .before .before in
+    let start = at-places .before .before in
+    let a = start .args in
+    runs-short (a .count) (a .at) (a .out .now) _ (at-places .places .ensures) _ (c .before .fits2 .ensures) (c .if1 .taken)
 
 slice-aggregate-put-word : tie.Need-slice-aggregate-put-word
 slice-aggregate-put-word c = search needs
@@ -33,8 +37,16 @@ same-length c = search needs
 
 returns-2 : tie.Need-returns-2
 returns-2 c =
-    runs-done (c .before .before .before .before .before .before .before .before .before .before .before .before .before .before .before .before .before .args .count) (c .before .before .before .before .before .before .before .before .before .before .before .before .before .before .before .before .before .args .at) (c .before .before .before .before .before .before .before .before .before .before .before .before .before .before .before .before .before .args .out .now) _ (c .before .before .before .before .before .before .before .before .before .before .before .before .before .before .before .places .ensures) _ (c .before .before .before .before .before .before .before .before .before .before .before .before .before .before .fits2 .ensures) (c .before .before .before .before .before .before .before .before .before .before .before .before .before .if1 .left) _ _ _ _
-    (c .before .before .before .before .before .before .before .before .before .before .put-word .ensures) (c .before .before .before .before .before .before .put-field .ensures) (c .before .before .put-byte .ensures)
+    let at-put-byte = c .before .before in
+    let at-put-field = at-put-byte .before .before .before .before in
+    let at-put-word = at-put-field .before .before .before .before in
+    let at-if1 = at-put-word .before .before .before in
+    let at-fits2 = at-if1 .before in
+    let at-places = at-fits2 .before in
+    let start = at-places .before .before in
+    let a = start .args in
+    runs-done (a .count) (a .at) (a .out .now) _ (at-places .places .ensures) _ (at-fits2 .fits2 .ensures) (at-if1 .if1 .left) _ _ _ _
+    (at-put-word .put-word .ensures) (at-put-field .put-field .ensures) (at-put-byte .put-byte .ensures)
 
 pub runs-line-spec : {M : Type 1} → statement M
 runs-line-spec =
