@@ -1,4 +1,5 @@
 -- Pieces written one after the other where a cursor stands.
+--     overlaid-none, length-overlaid, overlaid-more    a text laid over a part, and another behind it
 --     byte-put, no-byte         a byte, and no room for it
 --     number-put, no-number     what `print_number` answers
 --     joint, last-piece, two-pieces    pieces written after others
@@ -28,17 +29,17 @@ use Rattle.lines.specs.Pieces.{Cursor, cursor, after, afterAll}
 
 -- ---- a text laid over a part
 
-overlaid-none : (xs : List ℕ) (at : ℕ) → overlaid xs at [] ≡ xs
+pub overlaid-none : (xs : List ℕ) (at : ℕ) → overlaid xs at [] ≡ xs
 unfolding overlaid
 overlaid-none xs at = let e : at + 0 ≡ at = omega arith in rw e (take-append-drop at xs)
 
-length-overlaid : (xs : List ℕ) (at : ℕ) (a : List ℕ) → at + length a ≤ length xs → length (overlaid xs at a) ≡ length xs
+pub length-overlaid : (xs : List ℕ) (at : ℕ) (a : List ℕ) → at + length a ≤ length xs → length (overlaid xs at a) ≡ length xs
 unfolding overlaid
 length-overlaid xs at a h =
     let l : length (take at xs) ≡ at = length-take-le at xs (omega arith) in
     simp (length-append, l, length-drop) (omega arith)
 
-overlaid-more : (xs : List ℕ) (at : ℕ) (a b : List ℕ) → at + length a ≤ length xs → overlaid (overlaid xs at a) (at + length a) b ≡ overlaid xs at (a ++ b)
+pub overlaid-more : (xs : List ℕ) (at : ℕ) (a b : List ℕ) → at + length a ≤ length xs → overlaid (overlaid xs at a) (at + length a) b ≡ overlaid xs at (a ++ b)
 unfolding overlaid
 overlaid-more xs at a b h =
     let head = take at xs in
