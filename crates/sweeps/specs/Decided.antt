@@ -12,7 +12,7 @@ use Rattle.script.specs.Calls.{Call, begin, end, mark, program, erase, barrier}
 use Rattle.script.specs.Script.{Script, script, refused}
 use Rattle.threaded.specs.Threaded.{Session}
 use Rattle.writer.specs.Writer.{Wrote}
-use Rattle.sweeps.specs.Lines.{Shown}
+use Rattle.lines.specs.Lines.{Shown}
 use Rattle.sweeps.specs.Sweep.{runBy, shownBy, pointsOf, Swept, runs, notSwept}
 
 -- some range is marked behind: it begins or ends before an operation whose line comes before its own. `operations` lines have come before.

@@ -23,7 +23,7 @@ use Rattle.script.specs.Calls.{Call}
 use Rattle.script.specs.Script.{Script, script, refused, scriptOf}
 use Rattle.writer.specs.Writer.{Wrote, wrote}
 use Rattle.writer.specs.Held.{heldNumber, heldRun}
-use Rattle.sweeps.specs.Lines.{Shown, sweepText, judgeText, refusedText}
+use Rattle.lines.specs.Lines.{Shown, sweepText, judgeText, refusedText}
 
 -- "`a` or `r` (absorbed, rejected)"
 abbrev pub ruleOf : (rejected : Bool) → OneWayBits

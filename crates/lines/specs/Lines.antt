@@ -75,10 +75,13 @@ sweepLine place r =
 unfoldable pub suggested : List Entry → List ℕ
 suggested l = ids (picked (λ (e : Entry). isCommitted e && not (isTorn e)) l)
 
--- "place, verdict and the suggested history .. a field each. It passes nothing dispatched and no bank count."
+-- "place, verdict and the suggested history .. a field each"
+abbrev pub judgedLine : (place number : ℕ) → (history : List ℕ) → List ℕ
+judgedLine place number history = line (decimalOf place ∷ decimalOf number ∷ map decimalOf history)
+
+-- "It passes nothing dispatched and no bank count."
 unfoldable pub judgeLine : (place : ℕ) → Shown → List ℕ
-judgeLine place r =
-    line (decimalOf place ∷ decimalOf (numberOf (verdict (r .ledger) (suggested (r .ledger)) [] Absent)) ∷ map decimalOf (suggested (r .ledger)))
+judgeLine place r = judgedLine place (numberOf (verdict (r .ledger) (suggested (r .ledger)) [] Absent)) (suggested (r .ledger))
 
 -- "`runs`, count"
 abbrev pub runsLine : (count : ℕ) → List ℕ
