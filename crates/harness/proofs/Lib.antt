@@ -2,3 +2,4 @@
 pub mod Examples
 pub mod Below
 pub mod OneLine
+pub mod InStep
