@@ -3,3 +3,4 @@ pub mod Examples
 pub mod Below
 pub mod OneLine
 pub mod InStep
+pub mod Reached
