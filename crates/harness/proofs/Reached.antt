@@ -139,9 +139,6 @@ find-hit n (x ∷ xs) e = go (behindBy n x) refl (λ q. find-hit (countAfter n x
 
 -- ---- the marks that a line shows
 
-none-shown : (upto n c i : ℕ) → upto ≤ n → cond (ltb n upto) (c ∷ i ∷ n ∷ []) [] ≡ []
-none-shown upto n c i far = rw (le-ltb n upto far)
-
 -- marks at or above the end
 behind-none : (upto n : ℕ) (x : Call) → upto ≤ n → behindBy n x ≡ false → shownAll upto (notesOf n x) ≡ []
 unfolding shownAll
@@ -276,3 +273,232 @@ module _ (h : Head) (a : Armed) where
           → p < whole s (x ∷ xs) .session .counters .operations
       go true q k later = let r : p < s .counters .operations = hit-below p (s .counters .operations) x q in omega arith
       go false q k later = later q
+
+-- ---- both runs after the injection
+
+-- carrying on
+together-on : (h : Head) (upto : ℕ) (a b : Armed) (xs : List Call) (f r : Session) → Together upto f r
+    → Together upto (wrote (toldBy h a) true f xs .session) (wrote (toldBy h b) true r xs .session)
+unfolding wrote
+together-on h upto a b [] f r z = z
+together-on h upto a b (x ∷ xs) f r z =
+    rw (or-true (eqb (lineAnswered (toldBy h a) f x .answer) 0), or-true (eqb (lineAnswered (toldBy h b) r x .answer) 0))
+    (together-on h upto a b xs _ _ (together-line h upto f r x a b z))
+
+-- the run has stopped, and the fault-free one goes on
+held-alone : (h : Head) (upto : ℕ) (a : Armed) (xs : List Call) (f r : Session) → Held upto f r → wrote (toldBy h a) false f xs .failed ≡ false
+    → rangeBehind (f .counters .operations) xs ≡ false → Held upto (wrote (toldBy h a) false f xs .session) r
+held-alone h upto a xs f r z e b =
+    let k = wrote-keeps h a false upto xs f (z .f-far) in
+    record {
+      fired = z .fired;
+      f-far = le-trans (z .f-far) (k .grows);
+      r-far = z .r-far;
+      rows-same = k .rows-kept ∙ z .rows-same;
+      marks-same = seen-kept h a upto xs f (z .f-far) e b ∙ z .marks-same;
+    }
+
+-- both go on until the run stops
+together-until : (h : Head) (upto : ℕ) (a b : Armed) (xs : List Call) (f r : Session) → Together upto f r → wrote (toldBy h a) false f xs .failed ≡ false
+    → rangeBehind (f .counters .operations) xs ≡ false → Held upto (wrote (toldBy h a) false f xs .session) (wrote (toldBy h b) false r xs .session)
+unfolding wrote
+together-until h upto a b [] f r z e q = together-held upto f r z
+together-until h upto a b (x ∷ xs) f r z e q =
+    let n : ℕ = f .counters .operations in
+    let o = unfailed (toldBy h a) f x xs e in
+    let y = line-answers h a upto f x (o .answers-0) in
+    let f′ : Session = lineAnswered (toldBy h a) f x .session in
+    let r′ : Session = lineAnswered (toldBy h b) r x .session in
+    let z′ : Together upto f′ r′ = together-line h upto f r x a b z in
+    let e′ : wrote (toldBy h a) false f′ xs .failed ≡ false = sym (ap (λ (w : Wrote). w .failed) (o .on-is)) ∙ e in
+    let q′ : rangeBehind (f′ .counters .operations) xs ≡ false = rw (y .count-is) (false-right (behindBy n x) _ (sym (behind-first n x xs) ∙ q)) in
+    go (o .on-is) (together-until h upto a b xs f′ r′ z′ e′ q′) (held-alone h upto a xs f′ r′ (together-held upto f′ r′ z′) e′ q′) (going (toldBy h b) false r x xs)
+  where
+    go : wrote (toldBy h a) false f (x ∷ xs) ≡ wrote (toldBy h a) false (lineAnswered (toldBy h a) f x .session) xs
+        → Held upto (wrote (toldBy h a) false (lineAnswered (toldBy h a) f x .session) xs .session) (wrote (toldBy h b) false (lineAnswered (toldBy h b) r x .session) xs .session)
+        → Held upto (wrote (toldBy h a) false (lineAnswered (toldBy h a) f x .session) xs .session) (lineAnswered (toldBy h b) r x .session)
+        → Going (toldBy h b) false r x xs
+        → Held upto (wrote (toldBy h a) false f (x ∷ xs) .session) (wrote (toldBy h b) false r (x ∷ xs) .session)
+    go p on alone (goes i w) = rw (p, w) on
+    go p on alone (stops i k w) = rw (p, w) alone
+
+-- ---- the injection is met
+
+module _ (h : Head) (j : Injection) where
+  abbrev free : Told
+  free = toldBy h Nothing
+
+  abbrev hit : Told
+  hit = toldBy h (At j)
+
+  -- the line whose operation it is armed on: taken in both runs
+  pub record Parted (s : Session) (x : Call) : Type 0 where
+    pub together : Together (suc (j .op)) (lineAnswered free s x .session) (lineAnswered hit s x .session)
+    pub plain-answers : lineAnswered free s x .answer ≡ 0
+    pub completed : Bool
+    pub armed-answers : lineAnswered hit s x .answer ≡ endingOf (j .interruption) completed .answer
+
+  -- a line before it: the same in both runs
+  pub record Before (s : Session) (x : Call) : Type 0 where
+    pub same : lineAnswered hit s x ≡ lineAnswered free s x
+    pub few : lineAnswered free s x .session .counters .operations ≤ j .op
+
+  parted : (s : Session) (x : Call) (w : Row) (a : Armed) → j .op ≡ s .counters .operations → a ≡ At j → Taken s w Nothing (lineAnswered free s x)
+      → Taken s w a (lineAnswered hit s x) → Parted s x
+  parted s x w a i e p q =
+      let upto : ℕ = suc (j .op) in
+      record {
+        together = record {
+          fired = q .fired-is ∙ rw e;
+          f-far = rw (p .operations-is) (omega arith);
+          r-far = rw (q .operations-is) (omega arith);
+          rows-same = rows-are (ap (take upto) (p .kinds-is ∙ sym (q .kinds-is))) (ap (take upto) (p .offsets-is ∙ sym (q .offsets-is)))
+            (ap (take upto) (p .lens-is ∙ sym (q .lens-is))) (ap (take upto) (p .digests-is ∙ sym (q .digests-is)));
+          count-same = p .count-kept ∙ sym (q .count-kept);
+          marks-same = rw (p .marks-kept, q .marks-kept) (record { codes-same = refl; ids-same = refl; places-same = refl });
+        };
+        plain-answers = p .answer-is;
+        completed = q .completed;
+        armed-answers = q .answer-is ∙ rw e;
+      }
+
+  op-first : (s : Session) (x : Call) → s .counters .operations ≤ j .op → OpView h s x → (b : Bool) → eqb (j .op) (s .counters .operations) ≡ b
+      → Before s x ⊎ Parted s x
+  op-first s x few (refuses k z e) b i =
+      inl (record { same = e (At j) ∙ sym (e Nothing); few = rw (e Nothing) few })
+  op-first s x few (takes w t) true i =
+      inr (parted s x w (armedOn (At j) (s .counters .operations)) (eqb-true (j .op) (s .counters .operations) i) (rw i) (t Nothing) (t (At j)))
+  op-first s x few (takes w t) false i =
+      let d = eqb-false (j .op) (s .counters .operations) i in
+      inl (record {
+        same = same-line h s x (At j) Nothing (rw i);
+        few = rw (t Nothing .operations-is) (below (s .counters .operations) (j .op) few d);
+      })
+    where
+      below : (n i : ℕ) → n ≤ i → (i ≡ n → ⊥) → suc n ≤ i
+      below n i u v = omega arith
+
+  note-first : (s : Session) (x : Call) → s .counters .operations ≤ j .op → isOp x ≡ false → (k : ℕ) → noteTest s x ≡ k → Before s x
+  note-first s x few o zero e =
+      record { same = note-taken hit s x o e ∙ sym (note-taken free s x o e); few = rw (note-taken free s x o e) few }
+  note-first s x few o (suc k) e =
+      record { same = note-refused hit s x o k e ∙ sym (note-refused free s x o k e); few = rw (note-refused free s x o k e) few }
+
+  first-line : (s : Session) (x : Call) → s .counters .operations ≤ j .op → Before s x ⊎ Parted s x
+  first-line s x few = go (isOp x) refl
+    where
+      go : (b : Bool) → isOp x ≡ b → Before s x ⊎ Parted s x
+      go true e = op-first s x few (op-view h s x e) (eqb (j .op) (s .counters .operations)) refl
+      go false e = inl (note-first s x few e (noteTest s x) refl)
+
+  -- the runs are one until that line; a range marked behind comes after it, unless there is none
+  pub record Met (co : Bool) (s : Session) (xs : List Call) : Type 0 where
+    pub before : Session
+    pub line : Call
+    pub rest : List Call
+    pub plain-is : wrote free co s xs ≡ wrote free co before (line ∷ rest)
+    pub armed-is : wrote hit co s xs ≡ wrote hit co before (line ∷ rest)
+    pub is-parted : Parted before line
+    pub stays-clear : co ≡ false → rangeBehind (s .counters .operations) xs ≡ false
+        → rangeBehind (lineAnswered free before line .session .counters .operations) rest ≡ false
+    pub stays-hit : co ≡ false → hits (j .op) (s .counters .operations) xs ≡ true
+        → hits (j .op) (lineAnswered free before line .session .counters .operations) rest ≡ true
+
+  -- or it is never met
+  pub record Never (co : Bool) (s : Session) (xs : List Call) : Type 0 where
+    pub same : wrote hit co s xs ≡ wrote free co s xs
+    pub few : wrote free co s xs .session .counters .operations ≤ j .op
+
+  -- where the lines were taken, the operations of a script are counted by its lines
+  clear-next : (s : Session) (x : Call) (xs : List Call) → lineAnswered free s x .answer ≡ 0 → rangeBehind (s .counters .operations) (x ∷ xs) ≡ false
+      → rangeBehind (lineAnswered free s x .session .counters .operations) xs ≡ false
+  clear-next s x xs z b =
+      let n : ℕ = s .counters .operations in
+      let y = line-answers h Nothing 0 s x z in
+      rw (y .count-is) (false-right (behindBy n x) _ (sym (behind-first n x xs) ∙ b))
+
+  not-yet : (p n : ℕ) (x : Call) → n ≤ p → hitBy p n x ≡ false
+  not-yet p n (begin id) k = refl
+  not-yet p n end k = refl
+  not-yet p n (mark id from to) k = rw (le-ltb p n k)
+  not-yet p n (program offset bytes) k = refl
+  not-yet p n (erase offset count) k = refl
+  not-yet p n barrier k = refl
+
+  hit-next : (s : Session) (x : Call) (xs : List Call) → s .counters .operations ≤ j .op → lineAnswered free s x .answer ≡ 0
+      → hits (j .op) (s .counters .operations) (x ∷ xs) ≡ true → hits (j .op) (lineAnswered free s x .session .counters .operations) xs ≡ true
+  unfolding hits
+  hit-next s x xs few z b =
+      let n : ℕ = s .counters .operations in
+      let y = line-answers h Nothing 0 s x z in
+      rw (y .count-is) (sym (ap (λ (v : Bool). v || hits (j .op) (countAfter n x) xs) (not-yet (j .op) n x few)) ∙ b)
+
+  -- a line that is the same in both: both go on, or both stop
+  module _ (co : Bool) (s : Session) (x : Call) (xs : List Call) (z : Before s x) where
+    abbrev next-session : Session
+    next-session = lineAnswered free s x .session
+
+    stops-both : (eqb (lineAnswered free s x .answer) 0 || co) ≡ false → Never co s (x ∷ xs)
+    unfolding wrote
+    stops-both b = record { same = rw (z .same, b); few = rw b (z .few) }
+
+    goes-never : (eqb (lineAnswered free s x .answer) 0 || co) ≡ true → Never co next-session xs → Never co s (x ∷ xs)
+    unfolding wrote
+    goes-never b n = record { same = rw (z .same, b) (n .same); few = rw b (n .few) }
+
+    free-on : (eqb (lineAnswered free s x .answer) 0 || co) ≡ true → wrote free co s (x ∷ xs) ≡ wrote free co next-session xs
+    unfolding wrote
+    free-on b = rw b
+
+    hit-on : (eqb (lineAnswered free s x .answer) 0 || co) ≡ true → wrote hit co s (x ∷ xs) ≡ wrote hit co next-session xs
+    unfolding wrote
+    hit-on b = rw (z .same, b)
+
+    answers : (eqb (lineAnswered free s x .answer) 0 || co) ≡ true → co ≡ false → lineAnswered free s x .answer ≡ 0
+    answers b c = eqb-true _ 0 (either (eqb (lineAnswered free s x .answer) 0) co b c)
+      where
+        either : (u v : Bool) → (u || v) ≡ true → v ≡ false → u ≡ true
+        either true v p q = refl
+        either false v p q = sym q ∙ p
+
+    goes-met : s .counters .operations ≤ j .op → (eqb (lineAnswered free s x .answer) 0 || co) ≡ true → Met co next-session xs → Met co s (x ∷ xs)
+    goes-met few b m = record {
+      before = m .before;
+      line = m .line;
+      rest = m .rest;
+      plain-is = free-on b ∙ m .plain-is;
+      armed-is = hit-on b ∙ m .armed-is;
+      is-parted = m .is-parted;
+      stays-clear = λ c q. m .stays-clear c (clear-next s x xs (answers b c) q);
+      stays-hit = λ c q. m .stays-hit c (hit-next s x xs few (answers b c) q);
+    }
+
+  here : (co : Bool) (s : Session) (x : Call) (xs : List Call) → s .counters .operations ≤ j .op → Parted s x → Met co s (x ∷ xs)
+  here co s x xs few p = record {
+    before = s;
+    line = x;
+    rest = xs;
+    plain-is = refl;
+    armed-is = refl;
+    is-parted = p;
+    stays-clear = λ c q. clear-next s x xs (p .plain-answers) q;
+    stays-hit = λ c q. hit-next s x xs few (p .plain-answers) q;
+  }
+
+  pub reach : (co : Bool) (xs : List Call) (s : Session) → s .counters .operations ≤ j .op → Never co s xs ⊎ Met co s xs
+  unfolding wrote
+  reach co [] s few = inl (record { same = refl; few = few })
+  reach co (x ∷ xs) s few =
+      go (first-line s x few) (eqb (lineAnswered free s x .answer) 0 || co) refl (λ k. reach co xs (lineAnswered free s x .session) k)
+    where
+      on : (z : Before s x) → (eqb (lineAnswered free s x .answer) 0 || co) ≡ true → Never co (lineAnswered free s x .session) xs ⊎ Met co (lineAnswered free s x .session) xs
+          → Never co s (x ∷ xs) ⊎ Met co s (x ∷ xs)
+      on z b (inl n) = inl (goes-never co s x xs z b n)
+      on z b (inr m) = inr (goes-met co s x xs z few b m)
+
+      go : Before s x ⊎ Parted s x → (b : Bool) → (eqb (lineAnswered free s x .answer) 0 || co) ≡ b
+          → (lineAnswered free s x .session .counters .operations ≤ j .op → Never co (lineAnswered free s x .session) xs ⊎ Met co (lineAnswered free s x .session) xs)
+          → Never co s (x ∷ xs) ⊎ Met co s (x ∷ xs)
+      go (inr p) b e k = inr (here co s x xs few p)
+      go (inl z) true e k = on z e (k (z .few))
+      go (inl z) false e k = inl (stops-both co s x xs z e)
