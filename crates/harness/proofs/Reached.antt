@@ -502,3 +502,107 @@ module _ (h : Head) (j : Injection) where
       go (inr p) b e k = inr (here co s x xs few p)
       go (inl z) true e k = on z e (k (z .few))
       go (inl z) false e k = inl (stops-both co s x xs z e)
+
+-- ---- how the two runs end
+
+after-line : (h : Head) (a : Armed) (co : Bool) (upto : ℕ) (s : Session) (x : Call) (xs : List Call) → upto ≤ lineAnswered (toldBy h a) s x .session .counters .operations
+    → Keeps upto (lineAnswered (toldBy h a) s x .session) (wrote (toldBy h a) co s (x ∷ xs) .session)
+after-line h a co upto s x xs far = go (going (toldBy h a) co s x xs)
+  where
+    go : Going (toldBy h a) co s x xs → Keeps upto (lineAnswered (toldBy h a) s x .session) (wrote (toldBy h a) co s (x ∷ xs) .session)
+    go (goes z e) = rw e (wrote-keeps h a co upto xs (lineAnswered (toldBy h a) s x .session) far)
+    go (stops z n e) = rw e (keeps-all upto (lineAnswered (toldBy h a) s x .session))
+
+carried : (t : Told) (s : Session) (x : Call) (xs : List Call) → wrote t true s (x ∷ xs) ≡ wrote t true (lineAnswered t s x .session) xs
+unfolding wrote
+carried t s x xs = rw (or-true (eqb (lineAnswered t s x .answer) 0))
+
+-- the injection fired on one of the operations
+pub record Fired (j : Injection) (f r : Session) : Type 0 where
+  pub fired : r .counters .fired ≡ true
+  pub f-far : suc (j .op) ≤ f .counters .operations
+  pub r-far : suc (j .op) ≤ r .counters .operations
+
+-- and the run has fewer marks than the fault-free one below the end
+pub record Fewer (j : Injection) (f r : Session) : Type 0 where
+  pub is-fired : Fired j f r
+  pub fewer : length (seenBy (suc (j .op)) r) < length (seenBy (suc (j .op)) f)
+
+module _ (h : Head) (j : Injection) (xs : List Call) (s : Session) where
+  met-fired : (co : Bool) → Met h j co s xs → Fired j (wrote (toldBy h Nothing) co s xs .session) (wrote (toldBy h (At j)) co s xs .session)
+  met-fired co m =
+      let z = m .is-parted .together in
+      let k = after-line h Nothing co (suc (j .op)) (m .before) (m .line) (m .rest) (z .f-far) in
+      let l = after-line h (At j) co (suc (j .op)) (m .before) (m .line) (m .rest) (z .r-far) in
+      rw (m .plain-is, m .armed-is)
+      (record { fired = l .stays-fired (z .fired); f-far = le-trans (z .f-far) (k .grows); r-far = le-trans (z .r-far) (l .grows) })
+
+  met-carried : Met h j true s xs → Held (suc (j .op)) (wrote (toldBy h Nothing) true s xs .session) (wrote (toldBy h (At j)) true s xs .session)
+  met-carried m =
+      let f′ = lineAnswered (toldBy h Nothing) (m .before) (m .line) .session in
+      let r′ = lineAnswered (toldBy h (At j)) (m .before) (m .line) .session in
+      rw (m .plain-is, m .armed-is, carried (toldBy h Nothing) (m .before) (m .line) (m .rest), carried (toldBy h (At j)) (m .before) (m .line) (m .rest))
+      (together-held (suc (j .op)) _ _ (together-on h (suc (j .op)) Nothing (At j) (m .rest) f′ r′ (m .is-parted .together)))
+
+  module _ (e : wrote (toldBy h Nothing) false s xs .failed ≡ false) (m : Met h j false s xs) where
+    abbrev f′ : Session
+    f′ = lineAnswered (toldBy h Nothing) (m .before) (m .line) .session
+
+    abbrev r′ : Session
+    r′ = lineAnswered (toldBy h (At j)) (m .before) (m .line) .session
+
+    met-on : On (toldBy h Nothing) (m .before) (m .line) (m .rest)
+    met-on = unfailed (toldBy h Nothing) (m .before) (m .line) (m .rest) (sym (ap (λ (w : Wrote). w .failed) (m .plain-is)) ∙ e)
+
+    rest-unfailed : wrote (toldBy h Nothing) false f′ (m .rest) .failed ≡ false
+    rest-unfailed = sym (ap (λ (w : Wrote). w .failed) (m .plain-is ∙ met-on .on-is)) ∙ e
+
+    met-stopped : rangeBehind (s .counters .operations) xs ≡ false → Going (toldBy h (At j)) false (m .before) (m .line) (m .rest)
+        → Held (suc (j .op)) (wrote (toldBy h Nothing) false s xs .session) (wrote (toldBy h (At j)) false s xs .session)
+    met-stopped b (goes z p) =
+        rw (m .plain-is, m .armed-is, met-on .on-is, p)
+        (together-until h (suc (j .op)) Nothing (At j) (m .rest) f′ r′ (m .is-parted .together) rest-unfailed (m .stays-clear refl b))
+    met-stopped b (stops z n p) =
+        rw (m .plain-is, m .armed-is, met-on .on-is, p)
+        (held-alone h (suc (j .op)) Nothing (m .rest) f′ r′ (together-held (suc (j .op)) f′ r′ (m .is-parted .together)) rest-unfailed (m .stays-clear refl b))
+
+    met-fewer : j .interruption ≡ Watchdog → hits (j .op) (s .counters .operations) xs ≡ true → Going (toldBy h (At j)) false (m .before) (m .line) (m .rest)
+        → length (seenBy (suc (j .op)) (wrote (toldBy h (At j)) false s xs .session)) < length (seenBy (suc (j .op)) (wrote (toldBy h Nothing) false s xs .session))
+    met-fewer w b (goes z p) = absurd (not-zero (m .is-parted .completed) (sym (ap (λ (i : Interruption). endingOf i (m .is-parted .completed) .answer) w) ∙ sym (m .is-parted .armed-answers) ∙ z refl))
+      where
+        not-zero : (c : Bool) → endingOf Watchdog c .answer ≡ 0 → ⊥
+        not-zero true q = suc-ne-zero 21 q
+        not-zero false q = suc-ne-zero 21 q
+    met-fewer w b (stops z n p) =
+        rw (m .plain-is, m .armed-is, met-on .on-is, p, ← (together-held (suc (j .op)) f′ r′ (m .is-parted .together) .marks-same))
+        (seen-more h Nothing (j .op) (m .rest) f′ rest-unfailed (m .stays-hit refl b))
+
+  module _ (few : s .counters .operations ≤ j .op) where
+    pub fired-or-never : (co : Bool) → Never h j co s xs ⊎ Fired j (wrote (toldBy h Nothing) co s xs .session) (wrote (toldBy h (At j)) co s xs .session)
+    fired-or-never co = go (reach h j co xs s few)
+      where
+        go : Never h j co s xs ⊎ Met h j co s xs → Never h j co s xs ⊎ Fired j (wrote (toldBy h Nothing) co s xs .session) (wrote (toldBy h (At j)) co s xs .session)
+        go (inl n) = inl n
+        go (inr m) = inr (met-fired co m)
+
+    pub carried-or-never : Never h j true s xs ⊎ Held (suc (j .op)) (wrote (toldBy h Nothing) true s xs .session) (wrote (toldBy h (At j)) true s xs .session)
+    carried-or-never = go (reach h j true xs s few)
+      where
+        go : Never h j true s xs ⊎ Met h j true s xs → Never h j true s xs ⊎ Held (suc (j .op)) (wrote (toldBy h Nothing) true s xs .session) (wrote (toldBy h (At j)) true s xs .session)
+        go (inl n) = inl n
+        go (inr m) = inr (met-carried m)
+
+    module _ (e : wrote (toldBy h Nothing) false s xs .failed ≡ false) where
+      pub held-or-never : rangeBehind (s .counters .operations) xs ≡ false → Never h j false s xs ⊎ Held (suc (j .op)) (wrote (toldBy h Nothing) false s xs .session) (wrote (toldBy h (At j)) false s xs .session)
+      held-or-never b = go (reach h j false xs s few)
+        where
+          go : Never h j false s xs ⊎ Met h j false s xs → Never h j false s xs ⊎ Held (suc (j .op)) (wrote (toldBy h Nothing) false s xs .session) (wrote (toldBy h (At j)) false s xs .session)
+          go (inl n) = inl n
+          go (inr m) = inr (met-stopped e m b (going (toldBy h (At j)) false (m .before) (m .line) (m .rest)))
+
+      pub fewer-marks : j .interruption ≡ Watchdog → hits (j .op) (s .counters .operations) xs ≡ true → Fewer j (wrote (toldBy h Nothing) false s xs .session) (wrote (toldBy h (At j)) false s xs .session)
+      fewer-marks w b = go (reach h j false xs s few)
+        where
+          go : Never h j false s xs ⊎ Met h j false s xs → Fewer j (wrote (toldBy h Nothing) false s xs .session) (wrote (toldBy h (At j)) false s xs .session)
+          go (inl n) = absurd (let k = hits-below h Nothing (j .op) xs s e b in let l = n .few in omega arith)
+          go (inr m) = record { is-fired = met-fired false m; fewer = met-fewer e m w b (going (toldBy h (At j)) false (m .before) (m .line) (m .rest)) }
