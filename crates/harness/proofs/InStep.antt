@@ -5,32 +5,30 @@
 --     Answers, line-answers          a line that answers 0: the operations after it, and the marks below an end
 -- Assumes nothing.
 use mathlib.Core.Path.{_≡_, refl, sym, ap, subst, _∙_}
-use mathlib.Core.Bool.{Bool, true, false, cond, _||_, or-true, true≢false}
-use mathlib.Core.List.{List, [], _∷_, _++_, map, append-nil}
-use Prim.Native.Nat.{ℕ, zero, suc, _+_, _≤_, _<_}
+use mathlib.Core.Bool.{Bool, true, false, cond, or-true, true≢false}
+use mathlib.Core.List.{List, [], _∷_, _++_, append-nil}
+use Prim.Native.Nat.{ℕ, zero, suc, _+_, _≤_}
 use native.Mathlib.Nat.{suc-ne-zero, le-refl, le-trans}
 use native.Mathlib.Omega.{arith}
-use lib.ListN.{length, take, set, length-map}
+use lib.ListN.{length, take, length-map}
 use lib.Seq.{take-set-le}
-use lib.Dec.{eqb}
-use borrow.Author.Tests.{eq-eqb, ne-eqb, eqb-true, eqb-false}
+use borrow.Author.Tests.{ne-eqb}
 use Rattle.basics.proofs.Tests.{firstOf-zero}
 use Rattle.session.specs.declared.Told.{Told}
 use Rattle.session.specs.declared.Armed.{Armed}
-use Rattle.session.specs.declared.Counters.{Counters}
-use Rattle.session.specs.Log.{Marks, Mark}
+use Rattle.session.specs.Log.{Marks}
 use Rattle.session.specs.Tests.{marksTest, markTest, marksNumber}
 use Rattle.session.specs.Armed.{armedOn, isArmed}
-use Rattle.session.specs.Marks.{notedTest, noting, markedFrom, notedBy}
+use Rattle.session.specs.Marks.{notedTest, noting, markedFrom}
 use Rattle.session_marks.proofs.Rows.{marks-fit}
-use Rattle.threaded.specs.Threaded.{Session, Answered, afterMark}
+use Rattle.threaded.specs.Threaded.{Session, Answered}
 use Rattle.threaded.proofs.Alike.{MarksLong, marks-long}
 use Rattle.script.specs.declared.Head.{Head}
 use Rattle.script.specs.Calls.{Call, begin, end, mark, program, erase, barrier}
 use Rattle.writer.specs.Writer.{lineAnswered}
 use Rattle.harness.specs.Sweep.{toldBy}
 use Rattle.harness.proofs.Below.{clipped, clipped-far, Same, same-stored, seen, seen-same, shownAll, Room, seen-stored}
-use Rattle.harness.proofs.OneLine.{isOp, notesOf, notedLine, note-line, Row, Taken, OpView, refuses, takes, op-view}
+use Rattle.harness.proofs.OneLine.{isOp, notesOf, note-line, OpView, refuses, takes, op-view}
 
 -- ---- the operations before an end
 
@@ -72,9 +70,9 @@ module _ (h : Head) (upto : ℕ) (s : Session) (far : upto ≤ s .counters .oper
         grows = rw (y .operations-is) (omega arith);
         stays-fired = λ e. y .fired-is ∙ rw e (or-true (isArmed (armedOn a n)));
         rows-kept = rows-are (ap (take upto) (y .kinds-is) ∙ take-set-le upto (s .log .kinds) n (w .kind) far)
-          (ap (take upto) (y .offsets-is) ∙ take-set-le upto (s .log .offsets) n (w .offset) far)
-          (ap (take upto) (y .lens-is) ∙ take-set-le upto (s .log .lens) n (w .len) far)
-          (ap (take upto) (y .digests-is) ∙ take-set-le upto (s .log .digests) n (w .digest) far);
+            (ap (take upto) (y .offsets-is) ∙ take-set-le upto (s .log .offsets) n (w .offset) far)
+            (ap (take upto) (y .lens-is) ∙ take-set-le upto (s .log .lens) n (w .len) far)
+            (ap (take upto) (y .digests-is) ∙ take-set-le upto (s .log .digests) n (w .digest) far);
       }
 
 -- a line that marks is refused and changes nothing, or its marks are stored

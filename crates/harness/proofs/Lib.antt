@@ -4,3 +4,5 @@ pub mod Below
 pub mod OneLine
 pub mod InStep
 pub mod Reached
+pub mod CrashPoints
+pub mod Decided

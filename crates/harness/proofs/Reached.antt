@@ -7,16 +7,16 @@
 --     held-or-never           and the run is held to the fault-free one, unless the writer stops and a range is marked behind
 --     fewer-marks             there the run that stops at the range's operation has fewer marks
 -- Assumes nothing.
-use mathlib.Core.Path.{_≡_, refl, sym, ap, subst, _∙_}
+use mathlib.Core.Path.{_≡_, refl, sym, ap, _∙_}
 use mathlib.Core.Logic.{_⊎_, inl, inr}
 use mathlib.Core.Bool.{Bool, true, false, cond, _&&_, _||_, or-true, true≢false}
 use mathlib.Core.List.{List, [], _∷_, _++_, append-nil}
 use Prim.Native.Nat.{ℕ, zero, suc, _+_, _≤_, _<_}
 use native.Mathlib.Nat.{suc-ne-zero, le-refl, le-trans}
 use native.Mathlib.Omega.{arith}
-use lib.ListN.{length, take, set, length-append}
+use lib.ListN.{length, take, length-append}
 use lib.Dec.{eqb, ltb}
-use borrow.Author.Tests.{eqb-true, eqb-false, eq-eqb, ne-eqb, ltb-true, ltb-false, lt-ltb, le-ltb}
+use borrow.Author.Tests.{eqb-true, eqb-false, eq-eqb, ltb-true, ltb-false, lt-ltb, le-ltb}
 use Rattle.device.proofs.Pairs.{false-left, false-right}
 use Rattle.inject.specs.declared.Injection.{Injection}
 use Rattle.inject.specs.declared.Interruption.{Interruption}
@@ -25,8 +25,8 @@ use Rattle.landing.specs.Ending.{endingOf}
 use Rattle.session.specs.declared.Told.{Told}
 use Rattle.session.specs.declared.Armed.{Armed}
 use Rattle.session.specs.declared.Armed.the-variants.{Nothing, At}
-use Rattle.session.specs.Armed.{armedOn, isArmed, endedBy}
-use Rattle.threaded.specs.Threaded.{Session, Answered}
+use Rattle.session.specs.Armed.{armedOn}
+use Rattle.threaded.specs.Threaded.{Session}
 use Rattle.script.specs.declared.Head.{Head}
 use Rattle.script.specs.Calls.{Call, begin, end, mark, program, erase, barrier}
 use Rattle.writer.specs.Writer.{lineAnswered, Wrote, wrote}
@@ -34,7 +34,7 @@ use Rattle.harness.specs.Sweep.{toldBy}
 use Rattle.harness.specs.Decided.{rangeBehind}
 use Rattle.harness.proofs.Below.{shown, shownAll}
 use Rattle.harness.proofs.OneLine.{isOp, notesOf, Row, Taken, OpView, refuses, takes, op-view, same-line}
-use Rattle.harness.proofs.InStep.{rowsTo, rows-are, Keeps, keeps-all, keeps-on, line-keeps, note-taken, note-refused, noteTest, Together, seenBy, Held, together-held, together-line, countAfter, Answers, line-answers}
+use Rattle.harness.proofs.InStep.{rows-are, Keeps, keeps-all, keeps-on, line-keeps, note-taken, note-refused, noteTest, Together, seenBy, Held, together-held, together-line, countAfter, line-answers}
 
 -- ---- a writer at a line
 
@@ -353,7 +353,7 @@ module _ (h : Head) (j : Injection) where
           f-far = rw (p .operations-is) (omega arith);
           r-far = rw (q .operations-is) (omega arith);
           rows-same = rows-are (ap (take upto) (p .kinds-is ∙ sym (q .kinds-is))) (ap (take upto) (p .offsets-is ∙ sym (q .offsets-is)))
-            (ap (take upto) (p .lens-is ∙ sym (q .lens-is))) (ap (take upto) (p .digests-is ∙ sym (q .digests-is)));
+              (ap (take upto) (p .lens-is ∙ sym (q .lens-is))) (ap (take upto) (p .digests-is ∙ sym (q .digests-is)));
           count-same = p .count-kept ∙ sym (q .count-kept);
           marks-same = rw (p .marks-kept, q .marks-kept) (record { codes-same = refl; ids-same = refl; places-same = refl });
         };
