@@ -9,7 +9,7 @@
 -- Assumes nothing.
 use mathlib.Core.Path.{_≡_, refl, sym, ap, _∙_}
 use mathlib.Core.Logic.{_⊎_, inl, inr}
-use mathlib.Core.Bool.{Bool, true, false, cond, _&&_, _||_, or-true, true≢false}
+use mathlib.Core.Bool.{Bool, true, false, cond, _&&_, _||_, or-true, or-false, true≢false}
 use mathlib.Core.List.{List, [], _∷_, _++_, append-nil}
 use Prim.Native.Nat.{ℕ, zero, suc, _+_, _≤_, _<_}
 use native.Mathlib.Nat.{suc-ne-zero, le-refl, le-trans}
@@ -84,24 +84,20 @@ wrote-keeps h a co upto (x ∷ xs) s far =
 
 -- ---- ranges marked behind, line by line
 
--- this line is a range with an end before one of the operations so far; or with an end at operation p
+-- this line marks a range behind
 abbrev behindBy : (operations : ℕ) → Call → Bool
-behindBy n (begin id) = false
-behindBy n end = false
-behindBy n (mark id from to) = ltb from n || ltb to n
-behindBy n (program offset bytes) = false
-behindBy n (erase offset count) = false
-behindBy n barrier = false
+behindBy n x = rangeBehind n (x ∷ [])
 
 behind-first : (n : ℕ) (x : Call) (xs : List Call) → rangeBehind n (x ∷ xs) ≡ (behindBy n x || rangeBehind (countAfter n x) xs)
 unfolding rangeBehind
 behind-first n (begin id) xs = refl
 behind-first n end xs = refl
-behind-first n (mark id from to) xs = refl
+behind-first n (mark id from to) xs = simp or-false
 behind-first n (program offset bytes) xs = refl
 behind-first n (erase offset count) xs = refl
 behind-first n barrier xs = refl
 
+-- this line marks a range that begins or ends at operation p, which was before it
 abbrev hitBy : (p operations : ℕ) → Call → Bool
 hitBy p n (begin id) = false
 hitBy p n end = false
@@ -114,14 +110,18 @@ unfoldable pub hits : (p operations : ℕ) → List Call → Bool
 hits p n [] = false
 hits p n (x ∷ xs) = hitBy p n x || hits p (countAfter n x) xs
 
-hit-of : (n : ℕ) (x : Call) → behindBy n x ≡ true → (p : ℕ) × (hitBy p n x ≡ true)
-hit-of n (begin id) e = absurd (true≢false (sym e))
-hit-of n end e = absurd (true≢false (sym e))
-hit-of n (mark id from to) e = go (ltb from n) refl
+hit-end : (n from to : ℕ) → (ltb from n || ltb to n) ≡ true → (p : ℕ) × ((ltb p n && (eqb from p || eqb to p)) ≡ true)
+hit-end n from to e = go (ltb from n) refl
   where
     go : (b : Bool) → ltb from n ≡ b → (p : ℕ) × ((ltb p n && (eqb from p || eqb to p)) ≡ true)
     go true q = (from, rw (q, eq-eqb from from refl))
     go false q = (to, rw (rw q at e, eq-eqb to to refl) (or-true (eqb from to)))
+
+hit-of : (n : ℕ) (x : Call) → behindBy n x ≡ true → (p : ℕ) × (hitBy p n x ≡ true)
+unfolding rangeBehind
+hit-of n (begin id) e = absurd (true≢false (sym e))
+hit-of n end e = absurd (true≢false (sym e))
+hit-of n (mark id from to) e = hit-end n from to (sym (or-false (ltb from n || ltb to n)) ∙ e)
 hit-of n (program offset bytes) e = absurd (true≢false (sym e))
 hit-of n (erase offset count) e = absurd (true≢false (sym e))
 hit-of n barrier e = absurd (true≢false (sym e))
@@ -141,12 +141,13 @@ find-hit n (x ∷ xs) e = go (behindBy n x) refl (λ q. find-hit (countAfter n x
 
 -- marks at or above the end
 behind-none : (upto n : ℕ) (x : Call) → upto ≤ n → behindBy n x ≡ false → shownAll upto (notesOf n x) ≡ []
-unfolding shownAll
+unfolding shownAll rangeBehind
 behind-none upto n (begin id) far e = rw (le-ltb n upto far)
 behind-none upto n end far e = rw (le-ltb n upto far)
 behind-none upto n (mark id from to) far e =
-    let a : n ≤ from = ltb-false from n (false-left (ltb from n) (ltb to n) e) in
-    let b : n ≤ to = ltb-false to n (false-right (ltb from n) (ltb to n) e) in
+    let c : (ltb from n || ltb to n) ≡ false = sym (or-false (ltb from n || ltb to n)) ∙ e in
+    let a : n ≤ from = ltb-false from n (false-left (ltb from n) (ltb to n) c) in
+    let b : n ≤ to = ltb-false to n (false-right (ltb from n) (ltb to n) c) in
     rw (le-ltb from upto (le-trans far a), le-ltb to upto (le-trans far b))
 behind-none upto n (program offset bytes) far e = refl
 behind-none upto n (erase offset count) far e = refl
