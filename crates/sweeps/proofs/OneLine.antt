@@ -5,16 +5,15 @@
 --     same-line                 an injection that is not armed on the next operation makes no difference
 -- Assumes nothing.
 use mathlib.Core.Path.{_≡_, refl, sym, ap, _∙_}
-use mathlib.Core.Bool.{Bool, true, false, cond, not, _||_, true≢false, false≢true}
+use mathlib.Core.Bool.{Bool, true, false, cond, not, _||_, true≢false}
 use mathlib.Core.List.{List, [], _∷_}
-use Prim.Native.Nat.{ℕ, zero, suc, _+_, _≤_, _<_}
+use Prim.Native.Nat.{ℕ, zero, suc, _≤_, _<_}
 use native.Mathlib.Numerals.{add-one}
 use native.Mathlib.Nat.{suc-ne-zero}
-use native.Mathlib.Omega.{arith}
 use lib.ListN.{length, set}
 use lib.Dec.{eqb}
 use borrow.Author.Tests.{eqb-true, ltb-false, not-false}
-use Rattle.basics.specs.Tests.{refuseIf, firstOf}
+use Rattle.basics.specs.Tests.{refuseIf}
 use Rattle.basics.proofs.Tests.{refuse-zero, firstOf-zero}
 use Rattle.storage.specs.Geometry.{geometryTest}
 use Rattle.storage.specs.Span.{eraseTest}
@@ -23,7 +22,7 @@ use Rattle.landing.specs.Ending.{stopNumber}
 use Rattle.digest.specs.Fnv.{digestOf}
 use Rattle.session.specs.declared.Told.{Told}
 use Rattle.session.specs.declared.Armed.{Armed}
-use Rattle.session.specs.declared.Armed.the-variants.{Nothing, At}
+use Rattle.session.specs.declared.Armed.the-variants.{Nothing}
 use Rattle.session.specs.Log.{Log, Mark, markOf}
 use Rattle.session.specs.Tests.{sizeTest, logShort, logLengthTest, logTest, operationTest}
 use Rattle.session.specs.Armed.{armedOn, isArmed, programLands, eraseLands, endedBy, nextCount, writeReply}
