@@ -1,9 +1,10 @@
--- Small runs, held: each number and answer of document 01's rule, computed. Columns here are as long as what they hold, so the examples are
--- of `heldNumber` and `heldBy`, which come after the columns' test. Assumes nothing.
+-- Small runs, held: each number and answer of document 01's rule, computed. Columns here are as long as what they hold, so most examples are
+-- of `heldBy`, which comes after the columns' test; the last three are of that test. Assumes nothing.
 use mathlib.Core.Path.{_≡_, refl}
 use mathlib.Core.Bool.{Bool, true, false}
 use mathlib.Core.List.{[], _∷_}
 use Prim.Native.Nat.{ℕ}
+use Rattle.basics.specs.Tests.{unless, refuseIf, firstOf}
 use Rattle.inject.specs.declared.Progress.{Progress}
 use Rattle.inject.specs.declared.Progress.the-variants.{None, Bytes, Whole}
 use Rattle.inject.specs.declared.Interruption.{Interruption}
@@ -12,9 +13,10 @@ use Rattle.inject.specs.declared.Injection.{Injection}
 use Rattle.inject.specs.Ops.{opsOf}
 use Rattle.landing.specs.declared.Stop.the-variants.{Running}
 use Rattle.session.specs.declared.Counters.{Counters}
-use Rattle.ledger.specs.Ledger.{marksFrom, marksListed}
+use Rattle.model.specs.Columns.{allUpTo}
+use Rattle.ledger.specs.Ledger.{marksFrom, marksListed, countsShort}
 use Rattle.held.specs.declared.Held.the-variants.{Relabelled, Kept, NotHeld}
-use Rattle.held.specs.Held.{Recorded, recordedOf, same, sameOp, sameLabel, below, sameThrough, heldNumber, heldBy}
+use Rattle.held.specs.Held.{Recorded, recordedOf, same, sameOp, sameLabel, below, sameThrough, heldNumber, columnsTest, lowest, heldBy, heldCall}
 
 abbrev at : (op : ℕ) → Progress → Interruption → Injection
 at op p w = record { op = op; progress = p; interruption = w }
@@ -83,3 +85,18 @@ other-operation = refl
 pub opening-marks : heldBy (at 0 None PowerLoss) (marking 7) (marking 8) ≡ Kept
 unfolding heldNumber sameThrough same opsOf below marksListed marksFrom
 opening-marks = refl
+
+-- "13: .. a session's shorter than its limits"
+pub short-columns : heldCall (at 0 None PowerLoss) idle idle ≡ NotHeld 13
+unfolding heldCall lowest columnsTest firstOf refuseIf unless allUpTo countsShort
+short-columns = refl
+
+-- "12: columns of one list unequal": the lower number comes first, in whichever run it is found
+pub uneven-columns : heldCall (at 0 None PowerLoss) idle (recordedOf (counted 0 0 false) [] (0 ∷ []) [] [] [] [] []) ≡ NotHeld 12
+unfolding heldCall lowest columnsTest firstOf refuseIf unless allUpTo countsShort
+uneven-columns = refl
+
+-- "12: .. operation or mark code without a meaning"
+pub unknown-code : heldCall (at 0 None PowerLoss) (recordedOf (counted 0 1 false) [] [] [] [] (2 ∷ []) (7 ∷ []) (0 ∷ [])) idle ≡ NotHeld 12
+unfolding heldCall lowest columnsTest firstOf refuseIf unless allUpTo countsShort
+unknown-code = refl
