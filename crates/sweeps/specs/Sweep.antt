@@ -22,7 +22,7 @@ use Rattle.script.specs.declared.Head.{Head}
 use Rattle.script.specs.Calls.{Call}
 use Rattle.script.specs.Script.{Script, script, refused, scriptOf}
 use Rattle.writer.specs.Writer.{Wrote, wrote}
-use Rattle.writer.specs.Held.{heldNumber, heldRun}
+use Rattle.held.specs.Held.{Recorded, recordedOf, isRelabelled, heldNumber}
 use Rattle.lines.specs.Lines.{Shown, sweepText, judgeText, refusedText}
 
 -- "`a` or `r` (absorbed, rejected)"
@@ -59,9 +59,19 @@ unfoldable pub pointsOf : Head → Session → List Injection
 pointsOf h f =
     injectionsOf (h .geometry) (opsOf (take (f .counters .operations) (f .log .kinds)) (take (f .counters .operations) (f .log .offsets)) (take (f .counters .operations) (f .log .lens)))
 
+-- what of a session is held to the fault-free run's
+abbrev pub recordedIn : Session → Recorded
+recordedIn s =
+    recordedOf (s .counters) (s .log .kinds) (s .log .offsets) (s .log .lens) (s .log .digests) (s .marks .codes) (s .marks .ids)
+    (s .marks .places)
+
+-- the run that is given: "the fault-free run relabelled", or the run itself
+unfoldable pub heldRun : Injection → (f r : Session) → Session
+heldRun j f r = cond (isRelabelled j (f .counters .operations)) f r
+
 -- the number that refuses the run of a crash point, and the run
 abbrev pub pointNumber : Head → List Call → (f : Session) → Injection → ℕ
-pointNumber h xs f j = heldNumber j f (runBy h xs (At j) .session)
+pointNumber h xs f j = heldNumber j (recordedIn f) (recordedIn (runBy h xs (At j) .session))
 
 abbrev pub pointRun : Head → List Call → (f : Session) → Injection → Shown
 pointRun h xs f j = shownBy h (At j) (heldRun j f (runBy h xs (At j) .session))
