@@ -11,18 +11,16 @@ use mathlib.Core.Path.{_≡_, refl, sym, ap, ap₂, _∙_}
 use mathlib.Core.Logic.{_⊎_, inl, inr}
 use mathlib.Core.Bool.{Bool, true, false, cond, not, _&&_, and-false}
 use mathlib.Core.List.{List, [], _∷_, map, List·Memᴰ, List·Memᴰ·head, List·Memᴰ·tail, List·Memᴰ·not-nil, List·Memᴰ·cases-cons, Memᴰ·append-left, Memᴰ·append-right}
-use Prim.Native.Nat.{ℕ, zero, suc, _+_, _≤_, _<_, min}
+use Prim.Native.Nat.{ℕ, zero, suc, _+_, _≤_, _<_}
 use native.Mathlib.Nat.{suc-ne-zero, suc-inj, min-eq-left, add-zero, zero-add, not-suc-le-zero, le-of-suc-le-suc}
 use native.Mathlib.Omega.{arith}
 use lib.ListN.{length, take, length-set}
 use lib.Seq.{length-take-le}
 use lib.Dec.{eqb}
-use borrow.Author.Tests.{eq-eqb, ne-eqb}
+use borrow.Author.Tests.{ne-eqb}
 use Rattle.basics.specs.Tests.{firstOf}
 use Rattle.basics.proofs.Lists.{Each}
 use Rattle.storage.specs.declared.Geometry.{Geometry}
-use Rattle.device.specs.Media.{anyPair, unequal}
-use Rattle.device.proofs.Pairs.{any-same}
 use Rattle.inject.specs.declared.Op.{Op}
 use Rattle.inject.specs.declared.Injection.{Injection}
 use Rattle.inject.specs.declared.Progress.the-variants.{None}
@@ -36,12 +34,13 @@ use Rattle.threaded.specs.Threaded.{Session}
 use Rattle.script.specs.declared.Head.{Head}
 use Rattle.script.specs.Calls.{Call}
 use Rattle.writer.specs.Writer.{lineAnswered, wrote}
-use Rattle.writer.specs.Held.{isWatchdog, isRelabelled, alike, sameOperations, marksHeld, sameMarks, heldNumber, heldRun}
+use Rattle.ledger.specs.Ledger.{marksListed}
+use Rattle.held.specs.Held.{isWatchdog, isRelabelled, endOf, opsThrough, digestsThrough, marksThrough, sameThrough, heldNumber}
+use Rattle.held.proofs.Exact.{alike-equal, equal-alike}
 use Rattle.landing.specs.Landed.{ran}
-use Rattle.sweeps.specs.Sweep.{toldBy, pointsOf}
-use Rattle.sweeps.proofs.Below.{seen}
+use Rattle.sweeps.specs.Sweep.{toldBy, pointsOf, recordedIn, heldRun}
 use Rattle.sweeps.proofs.OneLine.{isOp, OpView, refuses, takes, op-view}
-use Rattle.sweeps.proofs.InStep.{Rows, seenBy, Held, noteTest, note-taken, note-refused}
+use Rattle.sweeps.proofs.InStep.{Rows, rowsTo, seenBy, Held, noteTest, note-taken, note-refused}
 use Rattle.sweeps.proofs.Reached.{Going, goes, stops, going, Fired, Fewer}
 
 -- ---- the number of one point
@@ -49,29 +48,16 @@ use Rattle.sweeps.proofs.Reached.{Going, goes, stops, going, Fired, Few
 abbrev pub lonePoint : Injection
 lonePoint = point 0 Watchdog None
 
-alike-same : (n : ℕ) (xs ys : List ℕ) → take n xs ≡ take n ys → alike n xs ys ≡ true
-alike-same n xs ys e = ap (λ (l : List ℕ). not (anyPair unequal l (take n ys))) e ∙ ap not (any-same (take n ys))
-
--- a session beside itself
-pub operations-self : (through : ℕ) (s : Session) → sameOperations through s s ≡ true
-operations-self through s = go (min through (s .counters .operations))
-  where
-    go : (n : ℕ) → (eqb n n && alike n (s .log .kinds) (s .log .kinds) && alike n (s .log .offsets) (s .log .offsets) && alike n (s .log .lens) (s .log .lens)
-        && alike n (s .log .digests) (s .log .digests)) ≡ true
-    go n = rw (eq-eqb n n refl, any-same (take n (s .log .kinds)), any-same (take n (s .log .offsets)), any-same (take n (s .log .lens)), any-same (take n (s .log .digests)))
-
-pub marks-self : (through : ℕ) (s : Session) → sameMarks through s s ≡ true
-marks-self through s = go (marksHeld through s)
-  where
-    go : (a : List ℕ) → (eqb (length a) (length a) && not (anyPair unequal a a)) ≡ true
-    go a = rw (eq-eqb (length a) (length a) refl, any-same a)
+-- the number of a run held to another
+abbrev pub heldIn : Injection → (f r : Session) → ℕ
+heldIn j f r = heldNumber j (recordedIn f) (recordedIn r)
 
 -- the two points of no operations
-pub opening-number : (s : Session) → s .counters .operations ≡ 0 → heldNumber opening s s ≡ 0
+pub opening-number : (s : Session) → s .counters .operations ≡ 0 → heldIn opening s s ≡ 0
 unfolding heldNumber
-opening-number s e = rw (operations-self 1 s, marks-self 1 s, e, and-false (not (s .counters .fired)))
+opening-number s e = rw (equal-alike 1 (recordedIn s) (recordedIn s) refl refl refl, e, and-false (not (s .counters .fired)))
 
-pub lone-number : (f r : Session) → f .counters .operations ≡ 0 → heldNumber lonePoint f r ≡ 0
+pub lone-number : (f r : Session) → f .counters .operations ≡ 0 → heldIn lonePoint f r ≡ 0
 unfolding heldNumber
 lone-number f r e = rw e
 
@@ -86,6 +72,10 @@ opening-run f r = refl
 less-unequal : (a b : ℕ) → a < b → a ≡ b → ⊥
 less-unequal a b h e = omega arith
 
+-- the operations of such rows
+abbrev opsIn : Rows → List Op
+opsIn w = opsOf (w .kinds) (w .offsets) (w .lens)
+
 module _ (j : Injection) (f r : Session) (below : j .op < f .counters .operations) where
   not-relabelled : isRelabelled j (f .counters .operations) ≡ false
   not-relabelled =
@@ -99,56 +89,53 @@ module _ (j : Injection) (f r : Session) (below : j .op < f .counters .operation
   abbrev through : ℕ
   through = suc (j .op)
 
-  number-by : r .counters .fired ≡ true → heldNumber j f r ≡ cond (sameOperations (suc (j .op)) f r && sameMarks (suc (j .op)) f r) 0 26
+  abbrev alike : Bool
+  alike = sameThrough through (recordedIn f) (recordedIn r)
+
+  number-by : r .counters .fired ≡ true → heldIn j f r ≡ cond alike 0 26
   unfolding heldNumber
   number-by e = rw (not-relabelled, e)
 
-  pub number-either : Fired j f r → (heldNumber j f r ≡ 0) ⊎ (heldNumber j f r ≡ 26)
-  number-either z = go (sameOperations through f r && sameMarks through f r) (number-by (z .fired))
+  pub number-either : Fired j f r → (heldIn j f r ≡ 0) ⊎ (heldIn j f r ≡ 26)
+  number-either z = go alike (number-by (z .fired))
     where
-      go : (b : Bool) → heldNumber j f r ≡ cond b 0 26 → (heldNumber j f r ≡ 0) ⊎ (heldNumber j f r ≡ 26)
+      go : (b : Bool) → heldIn j f r ≡ cond b 0 26 → (heldIn j f r ≡ 0) ⊎ (heldIn j f r ≡ 26)
       go true e = inl e
       go false e = inr e
 
-  -- the marks that are compared are those below the end
-  marks-are : (s : Session) → suc (j .op) ≤ s .counters .operations → marksHeld (suc (j .op)) s ≡ seenBy (suc (j .op)) s
-  marks-are s far = ap (λ (n : ℕ). seen n (s .counters .marks) (s .marks)) (min-eq-left far)
+  -- what is compared of a run that went as far: its rows, and the marks below the end
+  module _ (s : Session) (far : suc (j .op) ≤ s .counters .operations) where
+    end-is : endOf through (recordedIn s) ≡ through
+    end-is = min-eq-left far
 
-  same-operations : Held (suc (j .op)) f r → sameOperations (suc (j .op)) f r ≡ true
-  same-operations z =
-      rw (
-        min-eq-left (z .f-far),
-        min-eq-left (z .r-far),
-        eq-eqb (suc (j .op)) (suc (j .op)) refl,
-        alike-same through (f .log .kinds) (r .log .kinds) (ap (λ (w : Rows). w .kinds) (z .rows-same)),
-        alike-same through (f .log .offsets) (r .log .offsets) (ap (λ (w : Rows). w .offsets) (z .rows-same)),
-        alike-same through (f .log .lens) (r .log .lens) (ap (λ (w : Rows). w .lens) (z .rows-same)),
-        alike-same through (f .log .digests) (r .log .digests) (ap (λ (w : Rows). w .digests) (z .rows-same)),
-      )
+    ops-are : opsThrough through (recordedIn s) ≡ opsIn (rowsTo through s)
+    ops-are = ap (λ (n : ℕ). opsIn (rowsTo n s)) end-is
 
-  same-marks : Held (suc (j .op)) f r → sameMarks (suc (j .op)) f r ≡ true
-  same-marks z = go (marksHeld (suc (j .op)) f) (marksHeld (suc (j .op)) r) (marks-are f (z .f-far) ∙ z .marks-same ∙ sym (marks-are r (z .r-far)))
+    digests-are : digestsThrough through (recordedIn s) ≡ rowsTo through s .digests
+    digests-are = ap (λ (n : ℕ). rowsTo n s .digests) end-is
+
+    marks-are : marksThrough through (recordedIn s) ≡ seenBy through s
+    unfolding marksListed
+    marks-are = ap (λ (n : ℕ). seenBy n s) end-is
+
+  pub number-held : Held (suc (j .op)) f r → heldIn j f r ≡ 0
+  number-held z =
+      let a = z .f-far in
+      let b = z .r-far in
+      number-by (z .fired)
+      ∙ rw (equal-alike through (recordedIn f) (recordedIn r) (ops-are f a ∙ ap opsIn (z .rows-same) ∙ sym (ops-are r b)) (digests-are f a ∙ ap (λ (w : Rows). w .digests) (z .rows-same) ∙ sym (digests-are r b)) (marks-are f a ∙ z .marks-same ∙ sym (marks-are r b)))
+
+  pub number-fewer : Fewer j f r → heldIn j f r ≡ 26
+  number-fewer z = number-by (z .is-fired .fired) ∙ go alike refl
     where
-      go : (a b : List ℕ) → a ≡ b → (eqb (length a) (length b) && not (anyPair unequal a b)) ≡ true
-      go a b e = rw (e, eq-eqb (length b) (length b) refl, any-same b)
-
-  pub number-held : Held (suc (j .op)) f r → heldNumber j f r ≡ 0
-  number-held z = number-by (z .fired) ∙ rw (same-operations z, same-marks z)
-
-  pub number-fewer : Fewer j f r → heldNumber j f r ≡ 26
-  number-fewer z =
-      let y = z .is-fired in
-      let m : sameMarks (suc (j .op)) f r ≡ false = go (marksHeld (suc (j .op)) f) (marksHeld (suc (j .op)) r) (marks-are f (y .f-far)) (marks-are r (y .r-far)) in
-      number-by (y .fired) ∙ rw m (both (sameOperations (suc (j .op)) f r))
-    where
-      go : (a b : List ℕ) → a ≡ seenBy (suc (j .op)) f → b ≡ seenBy (suc (j .op)) r → (eqb (length a) (length b) && not (anyPair unequal a b)) ≡ false
-      go a b p q =
-          let k : length b < length a = rw (p, q) (z .fewer) in
-          rw (ne-eqb (length a) (length b) (λ e. less-unequal (length b) (length a) k (sym e)))
-
-      both : (b : Bool) → _≡_ {A = ℕ} (cond (b && false) 0 26) 26
-      both true = refl
-      both false = refl
+      -- equal lists would be as long
+      go : (b : Bool) → alike ≡ b → _≡_ {A = ℕ} (cond b 0 26) 26
+      go true e =
+          let y = z .is-fired in
+          let m = alike-equal through (recordedIn f) (recordedIn r) e .2 in
+          let q : seenBy through r ≡ seenBy through f = sym (marks-are r (y .r-far)) ∙ sym m ∙ marks-are f (y .f-far) in
+          absurd (less-unequal _ _ (z .fewer) (ap length q))
+      go false e = refl
 
 -- ---- the points
 

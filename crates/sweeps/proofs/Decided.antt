@@ -22,13 +22,12 @@ use Rattle.script.specs.declared.Head.{Head}
 use Rattle.script.specs.Calls.{Call}
 use Rattle.script.specs.Script.{Script, script, refused, scriptOf}
 use Rattle.writer.specs.Writer.{Wrote, wrote}
-use Rattle.writer.specs.Held.{heldNumber, heldRun}
 use Rattle.lines.specs.Lines.{Shown}
-use Rattle.sweeps.specs.Sweep.{toldBy, openedBy, runBy, shownBy, pointsOf, pointNumber, pointRun, runs, notSwept, sweptUnless, sweptFrom, sweptBy, sweptScript, sweptOf}
+use Rattle.sweeps.specs.Sweep.{toldBy, openedBy, runBy, shownBy, pointsOf, heldRun, pointNumber, pointRun, runs, notSwept, sweptUnless, sweptFrom, sweptBy, sweptScript, sweptOf}
 use Rattle.sweeps.specs.Decided.{rangeBehind, meets26, runShown, runsShown, decidedBy, decidedScript}
 use Rattle.sweeps.proofs.InStep.{Held}
 use Rattle.sweeps.proofs.Reached.{find-hit, Never, Fired, Fewer, fired-or-never, carried-or-never, held-or-never, fewer-marks}
-use Rattle.sweeps.proofs.CrashPoints.{opening-number, lone-number, opening-run, lone-run, run-given, number-either, number-held, number-fewer, Sized, wrote-sized, lonePoint, empty-points, point-below, none-in, first-zero, first-26, map-each}
+use Rattle.sweeps.proofs.CrashPoints.{heldIn, opening-number, lone-number, opening-run, lone-run, run-given, number-either, number-held, number-fewer, Sized, wrote-sized, lonePoint, empty-points, point-below, none-in, first-zero, first-26, map-each}
 
 -- ---- from any session that has recorded nothing
 
@@ -76,11 +75,11 @@ module _ (h : Head) (xs : List Call) (s : Session) (start : s .counters .operati
       same-run : (j : Injection) → j .op ≡ 0 → r j ≡ f
       same-run j i = ⊎-elim (λ n. ap (λ (w : Wrote). w .session) (n .same)) (λ y. absurd (let k = y .f-far in omega (arith, i, e))) (fired-or-never h j xs s (few j) (h .«carries_on»))
 
-      empty-numbers : firstOf (map (λ (j : Injection). heldNumber j f (r j)) (pointsOf h f)) ≡ 0
+      empty-numbers : firstOf (map (λ (j : Injection). heldIn j f (r j)) (pointsOf h f)) ≡ 0
       empty-numbers =
-          ap (λ (l : List Injection). firstOf (map (λ (j : Injection). heldNumber j f (r j)) l)) (empty-points h f e)
-          ∙ first-zero (λ (j : Injection). heldNumber j f (r j)) (opening ∷ lonePoint ∷ [])
-          (each-cons _ opening (lonePoint ∷ []) (ap (heldNumber opening f) (same-run opening refl) ∙ opening-number f e)
+          ap (λ (l : List Injection). firstOf (map (λ (j : Injection). heldIn j f (r j)) l)) (empty-points h f e)
+          ∙ first-zero (λ (j : Injection). heldIn j f (r j)) (opening ∷ lonePoint ∷ [])
+          (each-cons _ opening (lonePoint ∷ []) (ap (heldIn opening f) (same-run opening refl) ∙ opening-number f e)
           (each-cons _ lonePoint [] (lone-number f (r lonePoint) e) (each-none _)))
 
       empty-runs : Each (λ (j : Injection). heldRun j f (r j) ≡ r j) (pointsOf h f)
@@ -92,22 +91,22 @@ module _ (h : Head) (xs : List Call) (s : Session) (start : s .counters .operati
     -- ---- all of them
 
     module _ (e : wrote (toldBy h Nothing) (h .«carries_on») s xs .failed ≡ false) where
-      held-numbers : meets26 h xs ≡ false → (n : ℕ) → f .counters .operations ≡ n → firstOf (map (λ (j : Injection). heldNumber j f (r j)) (pointsOf h f)) ≡ 0
+      held-numbers : meets26 h xs ≡ false → (n : ℕ) → f .counters .operations ≡ n → firstOf (map (λ (j : Injection). heldIn j f (r j)) (pointsOf h f)) ≡ 0
       held-numbers b zero i = empty-numbers i
       held-numbers b (suc n) i =
-          first-zero (λ (j : Injection). heldNumber j f (r j)) (pointsOf h f)
+          first-zero (λ (j : Injection). heldIn j f (r j)) (pointsOf h f)
           (λ j m. let k : j .op < f .counters .operations = point-below h f sized (rw i (omega arith)) j m in number-held j f (r j) k (holds j (h .«carries_on») k e b))
 
-      lacking-numbers : meets26 h xs ≡ true → firstOf (map (λ (j : Injection). heldNumber j f (r j)) (pointsOf h f)) ≡ 26
+      lacking-numbers : meets26 h xs ≡ true → firstOf (map (λ (j : Injection). heldIn j f (r j)) (pointsOf h f)) ≡ 26
       lacking-numbers b =
           let z = lacks (h .«carries_on») e b in
           let p : Injection = point (z .0) Watchdog None in
           let far : z .0 < f .counters .operations = z .1 .is-fired .f-far in
-          first-26 (λ (j : Injection). heldNumber j f (r j)) (pointsOf h f)
+          first-26 (λ (j : Injection). heldIn j f (r j)) (pointsOf h f)
           (λ j m. let k : j .op < f .counters .operations = point-below h f sized (omega arith) j m in number-either j f (r j) k (fires j (h .«carries_on») k))
           p (none-in h f sized (z .0) far) (number-fewer p f (r p) far (z .1))
 
-      numbers : (b : Bool) → meets26 h xs ≡ b → firstOf (map (λ (j : Injection). heldNumber j f (r j)) (pointsOf h f)) ≡ cond b 26 0
+      numbers : (b : Bool) → meets26 h xs ≡ b → firstOf (map (λ (j : Injection). heldIn j f (r j)) (pointsOf h f)) ≡ cond b 26 0
       numbers true b = lacking-numbers b
       numbers false b = held-numbers b (f .counters .operations) refl
 

@@ -21,6 +21,8 @@ use Rattle.session.specs.Tests.{marksTest, markTest, marksNumber}
 use Rattle.session.specs.Armed.{armedOn, isArmed}
 use Rattle.session.specs.Marks.{notedTest, noting, markedFrom}
 use Rattle.session_marks.proofs.Rows.{marks-fit}
+use Rattle.ledger.specs.Records.{RecordMark}
+use Rattle.held.specs.Held.{below}
 use Rattle.threaded.specs.Threaded.{Session, Answered}
 use Rattle.threaded.proofs.Alike.{MarksLong, marks-long}
 use Rattle.script.specs.declared.Head.{Head}
@@ -121,7 +123,7 @@ pub record Together (upto : ℕ) (f r : Session) : Type 0 where
   pub marks-same : Same upto (f .marks) (r .marks)
 
 -- the marks of a session below an end
-abbrev pub seenBy : (upto : ℕ) → Session → List ℕ
+abbrev pub seenBy : (upto : ℕ) → Session → List RecordMark
 seenBy upto s = seen upto (s .counters .marks) (s .marks)
 
 -- what a run is held to
@@ -265,7 +267,7 @@ op-answers h upto s x a o z (takes w t) = record {
 }
   where
     none : seenBy upto s ≡ seenBy upto s ++ shownAll upto []
-    none = unfold shownAll in sym (append-nil (seenBy upto s))
+    none = unfold below in sym (append-nil (seenBy upto s))
 
 pub line-answers : (h : Head) (a : Armed) (upto : ℕ) (s : Session) (x : Call) → lineAnswered (toldBy h a) s x .answer ≡ 0
     → Answers upto s x (lineAnswered (toldBy h a) s x .session)

@@ -26,13 +26,16 @@ use Rattle.session.specs.declared.Told.{Told}
 use Rattle.session.specs.declared.Armed.{Armed}
 use Rattle.session.specs.declared.Armed.the-variants.{Nothing, At}
 use Rattle.session.specs.Armed.{armedOn}
+use Rattle.session.specs.Log.{markOf}
+use Rattle.ledger.specs.Records.{RecordMark}
+use Rattle.held.specs.Held.{below}
 use Rattle.threaded.specs.Threaded.{Session}
 use Rattle.script.specs.declared.Head.{Head}
 use Rattle.script.specs.Calls.{Call, begin, end, mark, program, erase, barrier}
 use Rattle.writer.specs.Writer.{lineAnswered, Wrote, wrote}
 use Rattle.sweeps.specs.Sweep.{toldBy}
 use Rattle.sweeps.specs.Decided.{rangeBehind}
-use Rattle.sweeps.proofs.Below.{shown, shownAll}
+use Rattle.sweeps.proofs.Below.{read, shownAll}
 use Rattle.sweeps.proofs.OneLine.{isOp, notesOf, Row, Taken, OpView, refuses, takes, op-view, same-line}
 use Rattle.sweeps.proofs.InStep.{rows-are, Keeps, keeps-all, keeps-on, line-keeps, note-taken, note-refused, noteTest, Together, seenBy, Held, together-held, together-line, countAfter, line-answers}
 
@@ -141,7 +144,7 @@ find-hit n (x ∷ xs) e = go (behindBy n x) refl (λ q. find-hit (countAfter n x
 
 -- marks at or above the end
 behind-none : (upto n : ℕ) (x : Call) → upto ≤ n → behindBy n x ≡ false → shownAll upto (notesOf n x) ≡ []
-unfolding shownAll rangeBehind
+unfolding below rangeBehind
 behind-none upto n (begin id) far e = rw (le-ltb n upto far)
 behind-none upto n end far e = rw (le-ltb n upto far)
 behind-none upto n (mark id from to) far e =
@@ -161,21 +164,24 @@ and-left : (a b : Bool) → (a && b) ≡ true → a ≡ true
 and-left true b e = refl
 and-left false b e = e
 
+-- two marks, each shown or not
+abbrev two : (m n : RecordMark) (a b : Bool) → List RecordMark
+two m n a b = cond a (m ∷ cond b (n ∷ []) []) (cond b (n ∷ []) [])
+
+later : (m n : RecordMark) (a : Bool) → 0 < length (two m n a true)
+later m n true = omega arith
+later m n false = omega arith
+
 -- a range's end at operation p is shown
 hit-some : (p n : ℕ) (x : Call) → hitBy p n x ≡ true → 0 < length (shownAll (suc p) (notesOf n x))
-unfolding shownAll
+unfolding below
 hit-some p n (begin id) e = absurd (true≢false (sym e))
 hit-some p n end e = absurd (true≢false (sym e))
 hit-some p n (mark id from to) e = go (eqb from p) refl (and-right (ltb p n) (eqb from p || eqb to p) e)
   where
-    later : (b : Bool) → 0 < length (cond b (1 ∷ id ∷ from ∷ []) [] ++ ((0 ∷ 0 ∷ to ∷ []) ++ []))
-    later true = omega arith
-    later false = omega arith
-
-    go : (b : Bool) → eqb from p ≡ b → (b || eqb to p) ≡ true
-        → 0 < length (cond (ltb from (suc p)) (1 ∷ id ∷ from ∷ []) [] ++ (cond (ltb to (suc p)) (0 ∷ 0 ∷ to ∷ []) [] ++ []))
+    go : (b : Bool) → eqb from p ≡ b → (b || eqb to p) ≡ true → 0 < length (two (read (markOf 1 id from)) (read (markOf 0 0 to)) (ltb from (suc p)) (ltb to (suc p)))
     go true q w = let k : from ≡ p = eqb-true from p q in rw (lt-ltb from (suc p) (omega arith)) (omega arith)
-    go false q w = let k : to ≡ p = eqb-true to p w in rw (lt-ltb to (suc p) (omega arith)) (later (ltb from (suc p)))
+    go false q w = let k : to ≡ p = eqb-true to p w in rw (lt-ltb to (suc p) (omega arith)) (later _ _ (ltb from (suc p)))
 hit-some p n (program offset bytes) e = absurd (true≢false (sym e))
 hit-some p n (erase offset count) e = absurd (true≢false (sym e))
 hit-some p n barrier e = absurd (true≢false (sym e))
@@ -211,7 +217,7 @@ module _ (h : Head) (a : Armed) where
       let d : rangeBehind (next s x .counters .operations) xs ≡ false = rw (y .count-is) (false-right (behindBy n x) _ c) in
       ap (λ (w : Wrote). seenBy upto (w .session)) (o .on-is)
       ∙ seen-kept upto xs (next s x) (le-trans far (k .grows)) (sym (ap (λ (w : Wrote). w .failed) (o .on-is)) ∙ e) d
-      ∙ y .seen-is ∙ ap (λ (l : List ℕ). seenBy upto s ++ l) (behind-none upto n x far (false-left (behindBy n x) _ c)) ∙ append-nil (seenBy upto s)
+      ∙ y .seen-is ∙ ap (λ (l : List RecordMark). seenBy upto s ++ l) (behind-none upto n x far (false-left (behindBy n x) _ c)) ∙ append-nil (seenBy upto s)
 
   -- marks are never lost
   seen-grows : (upto : ℕ) (xs : List Call) (s : Session) → whole s xs .failed ≡ false → length (seenBy upto s) ≤ length (seenBy upto (whole s xs .session))
