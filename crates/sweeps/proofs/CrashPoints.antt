@@ -72,7 +72,7 @@ opening-run f r = refl
 less-unequal : (a b : ℕ) → a < b → a ≡ b → ⊥
 less-unequal a b h e = omega arith
 
--- the operations of such rows
+-- the operations that rows hold
 abbrev opsIn : Rows → List Op
 opsIn w = opsOf (w .kinds) (w .offsets) (w .lens)
 
@@ -122,8 +122,10 @@ module _ (j : Injection) (f r : Session) (below : j .op < f .counters .operation
   number-held z =
       let a = z .f-far in
       let b = z .r-far in
-      number-by (z .fired)
-      ∙ rw (equal-alike through (recordedIn f) (recordedIn r) (ops-are f a ∙ ap opsIn (z .rows-same) ∙ sym (ops-are r b)) (digests-are f a ∙ ap (λ (w : Rows). w .digests) (z .rows-same) ∙ sym (digests-are r b)) (marks-are f a ∙ z .marks-same ∙ sym (marks-are r b)))
+      let ops = ops-are f a ∙ ap opsIn (z .rows-same) ∙ sym (ops-are r b) in
+      let digests = digests-are f a ∙ ap (λ (w : Rows). w .digests) (z .rows-same) ∙ sym (digests-are r b) in
+      let marks = marks-are f a ∙ z .marks-same ∙ sym (marks-are r b) in
+      number-by (z .fired) ∙ rw (equal-alike through (recordedIn f) (recordedIn r) ops digests marks)
 
   pub number-fewer : Fewer j f r → heldIn j f r ≡ 26
   number-fewer z = number-by (z .is-fired .fired) ∙ go alike refl
@@ -194,8 +196,7 @@ wrote-sized h a co (x ∷ xs) s z =
 
 -- the operations recorded
 abbrev opsBy : Session → List Op
-opsBy f =
-    opsOf (take (f .counters .operations) (f .log .kinds)) (take (f .counters .operations) (f .log .offsets)) (take (f .counters .operations) (f .log .lens))
+opsBy f = opsIn (rowsTo (f .counters .operations) f)
 
 ops-long : (f : Session) → Sized f → length (opsBy f) ≡ f .counters .operations
 ops-long f z =
