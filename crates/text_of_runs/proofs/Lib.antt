@@ -1,0 +1,3 @@
+-- Laws alone: what `sweep` and `judge` print.
+pub mod Codes
+pub mod Steady

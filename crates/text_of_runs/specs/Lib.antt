@@ -1,0 +1,2 @@
+-- What the functions that `sweep` and `judge` call give together. A buyer reads `Claim`. Definitions only; assumes nothing.
+pub mod Steady
