@@ -1,3 +1,4 @@
 -- Laws alone: what `sweep` and `judge` print.
 pub mod Codes
 pub mod Steady
+pub mod Ledgers
