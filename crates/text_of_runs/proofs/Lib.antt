@@ -2,3 +2,5 @@
 pub mod Codes
 pub mod Steady
 pub mod Ledgers
+pub mod Sheets
+pub mod RunLines
