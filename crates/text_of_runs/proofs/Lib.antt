@@ -4,3 +4,4 @@ pub mod Steady
 pub mod Ledgers
 pub mod Sheets
 pub mod RunLines
+pub mod Openings
