@@ -127,11 +127,11 @@ codes-known h xs a = codes-steady (toldBy h a) (runBy h xs a .session) (run-stea
 
 -- ---- a run that its rows do not refuse
 
-module _ (h : Head) (a : Armed) (rows : ℕ) (k : Columns) (media copy : List ℕ) (l : Log) (m : Marks) (e : Entered) (z : Desk (h .geometry .capacity) media copy l m)
+module _ (h : Head) (a : Armed) (rows : ℕ) (k : Columns) (xs : List Call) (holds : callsIn rows k ≡ xs) (media copy : List ℕ) (l : Log) (m : Marks) (e : Entered) (z : Desk (h .geometry .capacity) media copy l m)
     (w : Book e) (none : runAtNumber h rows k (length media) (length copy) l m e ≡ 0) where
   -- the script's run
   abbrev ran : Session
-  ran = runBy h (callsIn rows k) a .session
+  ran = runBy h xs a .session
 
   abbrev entries : List Entry
   entries = sessionLedger (toldBy h a) ran
@@ -139,14 +139,14 @@ module _ (h : Head) (a : Armed) (rows : ℕ) (k : Columns) (media copy : List �
   at-call : runAtCall h a rows k media copy l m e ≡ ranWith (toldBy h a) ran e
   unfolding runAtCall runBy
   at-call =
-      rw none
-      (ap (λ (s : Session). ranWith (toldBy h a) (wrote (toldBy h a) (h .«carries_on») s (callsIn rows k) .session) e) (opened-is h media copy l m z))
+      rw (none, holds)
+      (ap (λ (s : Session). ranWith (toldBy h a) (wrote (toldBy h a) (h .«carries_on») s xs .session) e) (opened-is h media copy l m z))
 
   abbrev left : RanAt
   left = ranAt (Ended (ran .counters .stop) (ran .counters .operations) (length entries)) (ran .media) (ran .copy) (ran .log) (ran .marks) (entered entries e)
 
   pub run-ended : runAtCall h a rows k media copy l m e ≡ left
-  run-ended = at-call ∙ ap (ranAs ran) (ledger-is (toldBy h a) ran (run-steady h (callsIn rows k) a) e w)
+  run-ended = at-call ∙ ap (ranAs ran) (ledger-is (toldBy h a) ran (run-steady h xs a) e w)
 
   -- the first rows of the ledger's columns
   pub run-reads : (ledgerIn (firstRows (length entries) (runAtCall h a rows k media copy l m e .entries)) ≡ entries)
@@ -154,4 +154,8 @@ module _ (h : Head) (a : Armed) (rows : ℕ) (k : Columns) (media copy : List �
   run-reads =
       rw run-ended
       (reads-back (toldBy h a) (ran .counters) (ran .media) (ran .copy) (ran .log) (ran .marks) e (length entries) (entered entries e)
-      (ledger-is (toldBy h a) ran (run-steady h (callsIn rows k) a) e w))
+      (ledger-is (toldBy h a) ran (run-steady h xs a) e w))
+
+  -- and there are at most 512 of them
+  pub few-entries : length entries ≤ 512
+  few-entries = le-trans (ledger-few (toldBy h a) (ran .counters) (ran .media) (ran .copy) (ran .log) (ran .marks)) (run-steady h xs a .few-marks)

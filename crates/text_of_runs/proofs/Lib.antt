@@ -5,3 +5,4 @@ pub mod Ledgers
 pub mod Sheets
 pub mod RunLines
 pub mod Openings
+pub mod Whole
