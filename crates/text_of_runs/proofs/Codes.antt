@@ -1,12 +1,12 @@
 -- Columns of codes of which none is above the last with a meaning.
 --     set-known, take-known, zeros-known     a store of such a code, the first rows, and columns of zeros
 -- Assumes nothing.
-use mathlib.Core.Path.{_≡_, refl, sym, _∙_}
+use mathlib.Core.Path.{_≡_, refl, sym}
 use mathlib.Core.Bool.{Bool, true, false, _&&_, true≢false}
 use mathlib.Core.List.{List, [], _∷_}
 use Prim.Native.Nat.{ℕ, zero, suc, zero-le}
 use lib.ListN.{take, set, replicate}
-use lib.Dec.{eqb, leb, ltb}
+use lib.Dec.{leb}
 use borrow.Author.Tests.{le-leb, leb-true, lt-ltb}
 use native.Mathlib.Omega.{arith}
 use Rattle.basics.specs.Tests.{flag}

@@ -5,26 +5,24 @@
 --     run-ended        so a run that its rows do not refuse ends
 --     run-reads        and the first rows of the ledger's columns are the ledger
 -- Assumes nothing.
-use mathlib.Core.Path.{_≡_, refl, sym, ap, _∙_}
-use mathlib.Core.Bool.{Bool, true, false, _||_}
-use mathlib.Core.List.{List, [], _∷_}
+use mathlib.Core.Path.{_≡_, ap, _∙_}
+use mathlib.Core.Bool.{true, false}
+use mathlib.Core.List.{List, []}
 use Prim.Native.Nat.{ℕ, _≤_}
 use native.Mathlib.Nat.{le-trans}
-use native.Mathlib.Omega.{arith}
-use lib.ListN.{length, take, replicate}
-use lib.Dec.{eqb, leb, ltb}
+use lib.ListN.{length, replicate}
+use lib.Dec.{leb}
 use borrow.Author.Tests.{eq-eqb, le-leb, le-ltb}
 use Rattle.basics.specs.Tests.{unless, refuseIf, firstOf}
 use Rattle.device.specs.Media.{newMedia}
-use Rattle.landing.specs.declared.Stop.{Stop}
 use Rattle.model.specs.Ledger.{Entry}
 use Rattle.session.specs.declared.Armed.{Armed}
 use Rattle.session.specs.declared.Told.{Told}
 use Rattle.session.specs.Log.{Log, logOf, Marks, marksOf}
-use Rattle.session.specs.Tests.{sizeTest, logUnevenOf, marksUnevenOf, logShort, marksShort}
+use Rattle.session.specs.Tests.{sizeTest, logUnevenOf, marksUnevenOf}
 use Rattle.session.specs.Start.{fresh}
 use Rattle.ledger.specs.declared.Derived.the-variants.{Entries}
-use Rattle.ledger.specs.Ledger.{ledgerOfRun, codesKnown, countsShort, ledgerNumber, entriesUneven, Entered, entered, ledgered, ledgerCall}
+use Rattle.ledger.specs.Ledger.{codesKnown, countsShort, ledgerNumber, entriesUneven, Entered, entered, ledgered, ledgerCall}
 use Rattle.ledger.proofs.Readback.{firstRows, ledgerIn, refusedIn, reads-back}
 use Rattle.ledger.proofs.Sanity.{ledger-few}
 use Rattle.threaded.specs.Threaded.{Session, sessionLedger, sessionLedgered}
@@ -37,7 +35,7 @@ use Rattle.writer.specs.Writer.{wrote}
 use Rattle.sweeps.specs.Sweep.{toldBy, openedBy, runBy}
 use Rattle.harness_runs.specs.declared.RunAt.the-variants.{Ended}
 use Rattle.harness_runs.specs.Running.{runAtNumber, RanAt, ranAt, ranAs, ranWith, runAtCall}
-use Rattle.text_of_runs.specs.Steady.{LogSteady, MarksSteady, Steady}
+use Rattle.text_of_runs.specs.Steady.{Steady}
 use Rattle.text_of_runs.specs.Lent.{Desk, Book}
 use Rattle.text_of_runs.proofs.Codes.{take-known}
 use Rattle.text_of_runs.proofs.Steady.{run-steady}

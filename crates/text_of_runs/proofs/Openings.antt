@@ -5,18 +5,14 @@
 --     shown-at        the run at a place
 -- Assumes nothing.
 use mathlib.Core.Path.{_≡_, refl, sym, ap, _∙_}
-use mathlib.Core.Bool.{Bool, true, false, cond, _||_}
-use mathlib.Core.List.{List, [], _∷_, map}
+use mathlib.Core.Bool.{Bool, true, cond}
+use mathlib.Core.List.{List, []}
 use Prim.Native.Nat.{ℕ, zero, suc, _≤_, _<_}
-use native.Mathlib.Nat.{le-of-suc-le-suc}
-use native.Mathlib.Omega.{arith}
 use lib.ListN.{length, take, getD, length-map}
 use lib.Seq.{length-take-le}
-use lib.Dec.{eqb, leb, ltb}
 use borrow.Author.Tests.{eq-eqb, le-leb, lt-ltb}
 use Rattle.basics.specs.Tests.{unless, firstOf}
 use Rattle.basics.proofs.Lists.{getD-map-lt}
-use Rattle.storage.specs.declared.Geometry.{Geometry}
 use Rattle.storage.specs.Geometry.{geometryTest}
 use Rattle.inject.specs.declared.Injection.{Injection}
 use Rattle.inject.specs.declared.Counted.the-variants.{Points}
@@ -31,17 +27,16 @@ use Rattle.script.specs.declared.Head.{Head}
 use Rattle.script.specs.Calls.{Call}
 use Rattle.script.specs.Columns.{Columns}
 use Rattle.script.specs.Held.{callsIn}
-use Rattle.writer.specs.Writer.{Wrote, wrote}
-use Rattle.writer.specs.Run.{RunLeft, doneWith, runNumber, runCall}
-use Rattle.lines.specs.Lines.{Shown}
-use Rattle.sweeps.specs.Sweep.{toldBy, openedBy, runBy, shownBy, pointsOf}
+use Rattle.writer.specs.Writer.{wrote}
+use Rattle.writer.specs.Run.{doneWith, runNumber, runCall}
+use Rattle.sweeps.specs.Sweep.{toldBy, runBy, pointsOf}
 use Rattle.sweeps.specs.Decided.{meets26, runShown, runsShown}
 use Rattle.harness.specs.declared.Opened.{Opened}
 use Rattle.harness.specs.declared.Opened.the-variants.{Runs, NotSwept}
 use Rattle.harness.specs.declared.Placed.the-variants.{Run}
-use Rattle.harness.specs.Opening.{openCount, openPoints, OpenLeft, openLeft, openedWith, openCall}
+use Rattle.harness.specs.Opening.{openPoints, OpenLeft, openLeft, openedWith, openCall}
 use Rattle.harness.specs.Places.{armedBy, placedAt}
-use Rattle.text_of_runs.specs.Steady.{LogSteady, Steady}
+use Rattle.text_of_runs.specs.Steady.{Steady}
 use Rattle.text_of_runs.specs.Lent.{Desk}
 use Rattle.text_of_runs.proofs.Codes.{take-known, kinds-known}
 use Rattle.text_of_runs.proofs.Steady.{run-steady}

@@ -3,28 +3,23 @@
 --     judge-history     the suggested history fits a column of 512, and its first rows are it
 --     judge-written     the line of `judge`: the verdict on those columns, with nothing dispatched and no bank count
 -- Assumes nothing.
-use mathlib.Core.Path.{_≡_, refl, sym, ap, _∙_}
+use mathlib.Core.Path.{_≡_, refl, ap}
 use mathlib.Core.Bool.{Bool, true, false, cond, not, _&&_}
 use mathlib.Core.List.{List, [], _∷_, _++_}
-use Prim.Native.Nat.{ℕ, zero, suc, _≤_, zero-le, suc-le-suc}
-use native.Mathlib.Nat.{le-trans}
+use Prim.Native.Nat.{ℕ, suc, _≤_, zero-le, suc-le-suc}
 use native.Mathlib.Omega.{arith}
 use lib.ListN.{length, take, drop}
 use lib.Seq.{take-at}
-use lib.Dec.{eqb, leb}
 use borrow.Author.Tests.{le-leb}
 use Rattle.basics.specs.Tests.{unless, firstOf}
-use Rattle.landing.specs.declared.Stop.{Stop}
 use Rattle.model.specs.declared.ListAnswer.the-variants.{ListIs}
 use Rattle.model.specs.Ledger.{Entry, isCommitted, isTorn, ids, picked}
 use Rattle.model.specs.Columns.{ledgerOf, refused}
-use Rattle.model.specs.Answers.{Written}
 use Rattle.oracle.specs.declared.Banks.the-variants.{Absent}
 use Rattle.oracle.specs.declared.Verdict.{Verdict}
 use Rattle.oracle.specs.Verdict.{numberOf, verdict, verified}
-use Rattle.session.specs.declared.Armed.{Armed}
 use Rattle.lines.specs.Lines.{Shown, sweepLine, suggested, judgedLine, judgeLine}
-use Rattle.lines.specs.Answers.{Put, put, sweepPut, suggestedWritten}
+use Rattle.lines.specs.Answers.{put, sweepPut, suggestedWritten}
 
 picked-few : (test : Entry → Bool) (l : List Entry) → length (ids (picked test l)) ≤ length l
 unfolding ids picked

@@ -3,10 +3,9 @@
 --     rows-pass       nor do its rows refuse a run that is lent columns long enough
 -- Assumes nothing.
 use mathlib.Core.Path.{_≡_, refl, sym, ap, _∙_}
-use mathlib.Core.Bool.{Bool, true, false, cond, _&&_, _||_}
+use mathlib.Core.Bool.{Bool, true, false, cond, _&&_}
 use mathlib.Core.List.{List, [], _∷_, _++_, map}
-use Prim.Native.Nat.{ℕ, zero, suc, _+_, _≤_}
-use native.Mathlib.Nat.{le-trans}
+use Prim.Native.Nat.{ℕ, suc, _+_, _≤_}
 use native.Mathlib.Omega.{arith}
 use lib.ListN.{length, take, drop, length-append, length-drop, length-map}
 use lib.Seq.{take-at}
@@ -14,7 +13,6 @@ use lib.Dec.{eqb, leb, ltb}
 use borrow.Author.Tests.{eqb-true, le-ltb, eq-eqb}
 use Rattle.basics.specs.Tests.{unless, refuseIf, firstOf}
 use Rattle.basics.proofs.Tests.{firstOf-zero}
-use Rattle.storage.specs.declared.Geometry.{Geometry}
 use Rattle.storage.specs.Geometry.{geometryTest}
 use Rattle.session.specs.Tests.{sizeTest}
 use Rattle.text.specs.Lines.{TextLine, linesOf}
@@ -22,7 +20,7 @@ use Rattle.text.specs.Pairs.{over}
 use Rattle.script.specs.declared.Head.{Head}
 use Rattle.script.specs.Calls.{Call, begin, end, mark, program, erase, barrier, Reading, calls, faulty, readLines}
 use Rattle.script.specs.First.{FirstLine, given, noHead, firstOfLine, headTest}
-use Rattle.script.specs.Script.{Script, script, refused, withCalls, withTest, withFirst, withLines, scriptOf}
+use Rattle.script.specs.Script.{Script, script, refused, withCalls, withFirst, withLines, scriptOf}
 use Rattle.script.specs.Columns.{Columns, kindOf, firstIn, secondIn, thirdIn, bytesIn, startsOf, bytesOf, written}
 use Rattle.script.proofs.Enough.{enough}
 use Rattle.script_rows.specs.Rows.{isLetter, allLetters, anyOutside, rowsUnevenOf, runLengths, runContents, rowsNumber}

@@ -4,20 +4,19 @@
 --     opened-steady    a session as a start leaves it, over columns of zeros
 --     run-steady       a script's run
 -- Assumes nothing.
-use mathlib.Core.Path.{_≡_, refl, sym, ap, _∙_}
+use mathlib.Core.Path.{_≡_, refl, sym, _∙_}
 use mathlib.Core.Logic.{inl, inr, _⊎_}
 use mathlib.Core.Bool.{Bool, true, false, cond, _||_}
 use mathlib.Core.List.{List, [], _∷_}
-use Prim.Native.Nat.{ℕ, zero, suc, _+_, _-_, _≤_, _<_, zero-le}
-use native.Mathlib.Nat.{le-refl}
+use Prim.Native.Nat.{ℕ, _+_, _-_, _≤_, _<_, zero-le}
 use native.Mathlib.Omega.{arith}
-use lib.ListN.{length, take, drop, set, length-set, replicate, length-replicate}
+use lib.ListN.{length, take, drop, length-set, length-replicate}
 use lib.Dec.{eqb, leb, ltb}
 use borrow.Author.Tests.{eqb-true, ltb-true, le-leb, lt-leb}
 use Rattle.basics.specs.Parts.{part, overlaid}
 use Rattle.basics.proofs.Tests.{le-or-gt}
 use Rattle.basics.proofs.Parts.{length-part}
-use Rattle.device.specs.Media.{ff, newMedia, anded, postimage, programmed, erased}
+use Rattle.device.specs.Media.{ff, anded, postimage}
 use Rattle.device.proofs.Cells.{length-anded}
 use Rattle.device.proofs.Programming.{length-programmed}
 use Rattle.device.proofs.Erasing.{length-erased}
@@ -27,14 +26,14 @@ use Rattle.session.specs.declared.Entry.{Entry}
 use Rattle.session.specs.declared.Called.{Called}
 use Rattle.session.specs.declared.Plan.{Plan}
 use Rattle.session.specs.Log.{Log, logged, Marks, Mark, markOf, marked}
-use Rattle.session.specs.Armed.{armedOn, nextCount, writeReply}
+use Rattle.session.specs.Armed.{nextCount, writeReply}
 use Rattle.session.specs.Written.{Written, written, Landing, landedSo}
 use Rattle.session.specs.Barrier.{Ordered, ordered, orderedBy, barrierTest, barrierReply, barrierEntry, barriered}
 use Rattle.session.specs.Marks.{notedTest, noting, markedFrom, noted}
 use Rattle.session_marks.proofs.Rows.{marks-fit}
 use Rattle.session_erase.specs.Erase.{eraseNumberOf, erasePlan, eraseEntry, eraseLanding, eraseTaken, eraseCall}
 use Rattle.session_program.specs.Program.{programNumberOf, programPlan, programEntry, programLanding, programTaken, programCall}
-use Rattle.threaded.specs.Threaded.{Session, Answered, afterWrite, afterBarrier, afterMark}
+use Rattle.threaded.specs.Threaded.{Session, afterWrite, afterBarrier, afterMark}
 use Rattle.threaded.proofs.Cells.{length-overlaid, overlaid-none}
 use Rattle.script.specs.declared.Head.{Head}
 use Rattle.script.specs.Calls.{Call, begin, end, mark, program, erase, barrier}

@@ -3,13 +3,12 @@
 --     printed        the three ways of a program
 -- Assumes nothing.
 use mathlib.Core.Path.{_≡_, refl, sym, ap, ap₂, _∙_}
-use mathlib.Core.Bool.{Bool, true, false, cond, _||_}
-use mathlib.Core.List.{List, [], _∷_, _++_, map}
-use Prim.Native.Nat.{ℕ, zero, suc, _+_, _≤_, _<_}
+use mathlib.Core.Bool.{Bool, true, false, _||_}
+use mathlib.Core.List.{List, [], _∷_, _++_}
+use Prim.Native.Nat.{ℕ, suc, _+_, _≤_, _<_}
 use native.Mathlib.Nat.{add-zero, le-trans}
 use native.Mathlib.Omega.{arith}
-use lib.ListN.{length, take, getD}
-use lib.Dec.{eqb}
+use lib.ListN.{length, getD}
 use Rattle.storage.specs.Geometry.{geometryTest}
 use Rattle.model.specs.Answers.{Written}
 use Rattle.session.specs.declared.Armed.{Armed}
@@ -20,21 +19,17 @@ use Rattle.ledger.specs.Ledger.{Entered, entriesUneven}
 use Rattle.ledger.proofs.Readback.{ledgerIn, refusedIn}
 use Rattle.threaded.specs.Threaded.{Session}
 use Rattle.script.specs.declared.Head.{Head}
-use Rattle.script.specs.declared.ReadScript.the-variants.{Read, Refused}
+use Rattle.script.specs.declared.ReadScript.the-variants.{Read}
 use Rattle.script.specs.Calls.{Call}
 use Rattle.script.specs.Script.{Script, script, refused, scriptOf}
 use Rattle.script.specs.Columns.{Columns, bytesOf, written, after, readInto}
 use Rattle.script.specs.Held.{callsIn}
 use Rattle.script.proofs.Kept.{calls-kept}
 use Rattle.script.proofs.Rooms.{never-short}
-use Rattle.writer.specs.Run.{runNumber}
-use Rattle.lines.specs.Lines.{Shown, sweepLine, judgeLine, suggested, runsLine, linesFrom, refusedText, sweepText, judgeText}
-use Rattle.sweeps.specs.Sweep.{toldBy, runBy, pointsOf, Swept, runs, notSwept, sweptOf, printedBy, sweepOutput, judgeOutput}
+use Rattle.lines.specs.Lines.{Shown, sweepLine, judgeLine, suggested, runsLine, linesFrom, sweepText, judgeText}
+use Rattle.sweeps.specs.Sweep.{runBy, pointsOf, Swept, runs, notSwept, sweptOf, printedBy}
 use Rattle.sweeps.specs.Decided.{meets26, runShown, runsShown, decidedBy, decidedScript}
 use Rattle.sweeps.proofs.Decided.{swept-script}
-use Rattle.harness.specs.declared.Opened.{Opened}
-use Rattle.harness.specs.declared.Opened.the-variants.{Runs, NotSwept}
-use Rattle.harness.specs.Opening.{OpenLeft, openCall}
 use Rattle.harness_runs.specs.Running.{RanAt, runAtNumber, runAtCall}
 use Rattle.text_of_runs.specs.Lent.{Sheet, Desk, Book}
 use Rattle.text_of_runs.specs.Claim.{rowsTo, RunPrinted, PlacePrinted, Opens, runLines, Outputs, Printed, unread, unswept, swept}

@@ -38,20 +38,16 @@ pub record RunPrinted (place : ℕ) (armed : Armed) (ran : RanAt) (sweep judge :
   pub operations : ℕ
   pub count : ℕ
   pub rows : Entered
-
   -- the run ended: it is never refused; its ledger is the first `count` rows of the columns
   pub ended : ran .reply ≡ Ended stop operations count
   pub rows-are : rows ≡ rowsTo count (ran .entries)
-
   -- `sweep_line` on those rows writes the run's line of `sweep`, unless it does not fit
   pub swept : (at : ℕ) (out : List ℕ) → sweepPut place armed stop operations (rows .ids) (rows .states) (rows .torn) at out ≡ put 0 sweep at out
-
   -- `suggested` on those rows leaves a history in a column of 512
   pub history : List ℕ
   pub suggests : (column : List ℕ) → length column ≡ 512
       → (suggestedWritten (rows .ids) (rows .states) (rows .torn) column .answer ≡ ListIs (length history))
       × (take (length history) (suggestedWritten (rows .ids) (rows .states) (rows .torn) column .column) ≡ history)
-
   -- `verify_oracle` on those rows and that history, with nothing dispatched and no bank count, gives the run's line of `judge`
   pub judged : judgedLine place (numberOf (verified (rows .ids) (rows .states) (rows .torn) history [] Absent)) history ≡ judge
 
@@ -83,11 +79,9 @@ pub record Outputs (text sweep judge : List ℕ) : Type 0 where
 pub data Printed (text : List ℕ) (k : Columns) : Type 0 where
   -- `read_script` refuses: its number and line are printed
   unread : (number line : ℕ) → readInto text k ≡ after (Refused number line) k → Outputs text (refusedText number line) (refusedText number line) → Printed text k
-
   -- `open_sweep` refuses: its number and 0
   unswept : (h : Head) (rows bytes : ℕ) (sheet : Columns) (o : OpenLeft) (number : ℕ) → readInto text k ≡ after (Read h rows bytes) sheet
       → Opens h rows sheet o → o .reply ≡ NotSwept number → Outputs text (refusedText number 0) (refusedText number 0) → Printed text k
-
   -- the count of runs, and a line for each place
   swept : (h : Head) (rows bytes : ℕ) (sheet : Columns) (o : OpenLeft) (operations points : ℕ) (sweep judge : ℕ → List ℕ)
       → readInto text k ≡ after (Read h rows bytes) sheet → Opens h rows sheet o → o .reply ≡ Runs operations points
