@@ -2,6 +2,7 @@
 --     opened-is        a session over columns as long as the programs' is the opened one, once they are cleared
 --     codes-known      every code among those counted has a meaning, after any script's run
 --     ledger-passes    no number refuses its ledger
+--     few-entries      it has at most 512 entries
 --     run-ended        so a run that its rows do not refuse ends
 --     run-reads        and the first rows of the ledger's columns are the ledger
 -- Assumes nothing.
@@ -123,6 +124,12 @@ pub codes-known : (h : Head) (xs : List Call) (a : Armed)
     → codesKnown (runBy h xs a .session .counters) (runBy h xs a .session .log) (runBy h xs a .session .marks) ≡ true
 codes-known h xs a = codes-steady (toldBy h a) (runBy h xs a .session) (run-steady h xs a)
 
+-- a run's ledger has at most 512 entries
+pub few-entries : (h : Head) (xs : List Call) (a : Armed) → length (sessionLedger (toldBy h a) (runBy h xs a .session)) ≤ 512
+few-entries h xs a =
+    let s : Session = runBy h xs a .session in
+    le-trans (ledger-few (toldBy h a) (s .counters) (s .media) (s .copy) (s .log) (s .marks)) (run-steady h xs a .few-marks)
+
 -- ---- a run that its rows do not refuse
 
 module _ (h : Head) (a : Armed) (rows : ℕ) (k : Columns) (xs : List Call) (holds : callsIn rows k ≡ xs) (media copy : List ℕ) (l : Log) (m : Marks) (e : Entered) (z : Desk (h .geometry .capacity) media copy l m)
@@ -153,7 +160,3 @@ module _ (h : Head) (a : Armed) (rows : ℕ) (k : Columns) (xs : List Call) (hol
       rw run-ended
       (reads-back (toldBy h a) (ran .counters) (ran .media) (ran .copy) (ran .log) (ran .marks) e (length entries) (entered entries e)
       (ledger-is (toldBy h a) ran (run-steady h xs a) e w))
-
-  -- and there are at most 512 of them
-  pub few-entries : length entries ≤ 512
-  few-entries = le-trans (ledger-few (toldBy h a) (ran .counters) (ran .media) (ran .copy) (ran .log) (ran .marks)) (run-steady h xs a .few-marks)

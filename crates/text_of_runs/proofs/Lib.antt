@@ -6,3 +6,4 @@ pub mod Sheets
 pub mod RunLines
 pub mod Openings
 pub mod Whole
+pub mod Short

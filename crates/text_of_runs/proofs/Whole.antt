@@ -36,6 +36,7 @@ use Rattle.text_of_runs.specs.Claim.{rowsTo, RunPrinted, PlacePrinted, O
 use Rattle.text_of_runs.proofs.Sheets.{head-passes, rows-pass}
 use Rattle.text_of_runs.proofs.Ledgers.{run-ended, run-reads, few-entries}
 use Rattle.text_of_runs.proofs.RunLines.{suggested-few, sweep-written, judge-history, history-first, judge-written}
+use Rattle.text_of_runs.proofs.Short.{sweep-short, judge-short}
 use Rattle.text_of_runs.proofs.Openings.{left, open-is, armedAt, placed-is, shown-at, runs-count}
 
 -- ---- lines by place
@@ -137,7 +138,7 @@ module _ (text : List ℕ) (h : Head) (xs : List Call) (e : scriptOf text ≡ sc
     reads-ledger = run-reads h a (length xs) sheet xs holds media copy l m b d w unrefused
 
     room : (column : List ℕ) → length column ≡ 512 → length (suggested (shown .ledger)) ≤ length column
-    room column c = rw c (le-trans (suggested-few (shown .ledger)) (few-entries h a (length xs) sheet xs holds media copy l m b d w unrefused))
+    room column c = rw c (le-trans (suggested-few (shown .ledger)) (few-entries h xs a))
 
     run-printed : RunPrinted place a ran (sweepLine place shown) (judgeLine place shown)
     run-printed = record {
@@ -164,6 +165,8 @@ module _ (text : List ℕ) (h : Head) (xs : List Call) (e : scriptOf text ≡ sc
       → PlacePrinted h (length xs) sheet (faultFree .log) (faultFree .counters .operations) place (lineBy sweepLine place) (lineBy judgeLine place)
   place-printed place b = record {
     armed = armedAt h xs passes place;
+    sweep-short = sweep-short place (runShown h xs (armedAt h xs passes place)) (few-entries h xs (armedAt h xs passes place));
+    judge-short = judge-short place (runShown h xs (armedAt h xs passes place)) (few-entries h xs (armedAt h xs passes place));
     placed = placed-is h xs passes place b;
     prints = λ media copy l m c d w. run-printed place (armedAt h xs passes place) media copy l m c d w;
   }

@@ -55,6 +55,9 @@ pub record RunPrinted (place : ℕ) (armed : Armed) (ran : RanAt) (sweep judge :
 -- `run_at` the run is printed so
 pub record PlacePrinted (h : Head) (rows : ℕ) (k : Columns) (log : Log) (operations place : ℕ) (sweep judge : List ℕ) : Type 0 where
   pub armed : Armed
+  -- no line is longer than 11,915 bytes, so that a buffer with as much room refuses none
+  pub sweep-short : length sweep ≤ 11915
+  pub judge-short : length judge ≤ 11915
   pub placed : placedAt place (h .geometry) (take operations (log .kinds)) (take operations (log .offsets)) (take operations (log .lens)) ≡ Run armed
   pub prints : (media copy : List ℕ) (l : Log) (m : Marks) (e : Entered) → Desk (h .geometry .capacity) media copy l m → Book e
       → RunPrinted place armed (runAtCall h armed rows k media copy l m e) sweep judge
