@@ -7,3 +7,4 @@ pub mod RunLines
 pub mod Openings
 pub mod Whole
 pub mod Short
+pub mod Counts
