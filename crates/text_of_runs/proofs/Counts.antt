@@ -3,7 +3,7 @@
 --     run-lens        no operation that a script's run recorded is longer than the media
 --     points-few      how many crash points the fault-free run has at most
 -- Assumes nothing.
-use mathlib.Core.Path.{_≡_, refl, sym, ap, _∙_}
+use mathlib.Core.Path.{_≡_, refl, ap, _∙_}
 use mathlib.Core.Bool.{Bool, true, false, cond, _&&_, _||_}
 use mathlib.Core.List.{List, [], _∷_, _++_, map}
 use Prim.Native.Nat.{ℕ, zero, suc, _+_, _*_, _%_, _^_, _≤_, zero-le}
@@ -21,7 +21,7 @@ use Rattle.storage.specs.Span.{spanTest, programTest, eraseTest}
 use Rattle.inject.specs.declared.Op.{Op}
 use Rattle.inject.specs.declared.Op.the-variants.{Program, Erase, Barrier}
 use Rattle.inject.specs.declared.Progress.{Progress}
-use Rattle.inject.specs.declared.Progress.the-variants.{None, Bytes, Whole}
+use Rattle.inject.specs.declared.Progress.the-variants.{Bytes}
 use Rattle.inject.specs.declared.Interruption.{Interruption}
 use Rattle.inject.specs.declared.Interruption.the-variants.{PowerLoss, Watchdog, Failure}
 use Rattle.inject.specs.declared.Injection.{Injection}
@@ -31,10 +31,9 @@ use Rattle.landing.specs.Ending.{stopNumber}
 use Rattle.model.specs.Columns.{allUpTo}
 use Rattle.session.specs.declared.Told.{Told}
 use Rattle.session.specs.declared.Armed.{Armed}
-use Rattle.session.specs.declared.Armed.the-variants.{Nothing}
 use Rattle.session.specs.Log.{Log}
 use Rattle.session.specs.Tests.{sizeTest, logTest, operationTest}
-use Rattle.session.specs.Written.{Written, written}
+use Rattle.session.specs.Written.{Written}
 use Rattle.session.specs.Barrier.{Ordered, orderedBy, barrierTest, barrierReply, barriered}
 use Rattle.session_erase.specs.Erase.{eraseNumber, eraseNumberOf, erasePlan, eraseTaken, eraseCall}
 use Rattle.session_program.specs.Program.{spanNumber, bitTest, programNumber, programNumberOf, programPlan, programTaken, programCall}
@@ -249,6 +248,7 @@ injections-few g ks os ls e n =
     let z = under-few g Failure 0 ks os ls e in
     omega arith
 
+-- three points a byte and six more for each of 1,024 operations of at most 16,384 bytes, and two
 pub points-few : (h : Head) (xs : List Call) (a : Armed) → h .geometry .capacity ≤ 16384 → length (pointsOf h (runBy h xs a .session)) ≤ 50337794
 unfolding pointsOf
 points-few h xs a small =

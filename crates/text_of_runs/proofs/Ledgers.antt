@@ -46,6 +46,7 @@ use Rattle.text_of_runs.proofs.Steady.{run-steady}
 zeros-of : (xs : List ℕ) (n : ℕ) → length xs ≡ n → replicate {A = ℕ} (length xs) 0 ≡ replicate n 0
 zeros-of xs n e = ap (λ (k : ℕ). replicate {A = ℕ} k 0) e
 
+-- what a run starts from is the opened session, whatever the columns held
 pub opened-is : (h : Head) (media copy : List ℕ) (l : Log) (m : Marks) → Desk (h .geometry .capacity) media copy l m
     → _≡_ {A = Session}
     (record { counters = fresh; media = newMedia (length media); copy = newMedia (length copy); log = clearedLog l; marks = clearedMarks m }) (openedBy h)
@@ -110,16 +111,19 @@ module _ (t : Told) (s : Session) (z : Steady (t .geometry .capacity) s) where
     ledger-fits =
         rw (w .ids-long) (le-leb _ _ (le-trans (ledger-few t (s .counters) (s .media) (s .copy) (s .log) (s .marks)) (z .few-marks)))
 
+    -- a steady session's ledger is not refused: sizes, lengths, codes and counts all pass, and the ledger fits 512 rows
     pub ledger-passes : ledgerNumber t (s .counters) (s .media) (s .copy) (s .log) (s .marks) (length (e .ids)) (length (e .states)) (length (e .torn)) ≡ 0
     unfolding ledgerNumber firstOf unless refuseIf
     ledger-passes = rw (sizes-pass, log-even, marks-even, entries-even, codes-steady, counts-long, ledger-fits)
 
+    -- so `ledger` answers how many entries there are, and leaves them in the first rows
     pub ledger-is : sessionLedgered t s e ≡ ledgered (Entries (length (sessionLedger t s))) (entered (sessionLedger t s) e)
     unfolding ledgerCall
     ledger-is = rw ledger-passes
 
 -- ---- after any script's run
 
+-- every kind, both answers of yes or no and every mark's code have a meaning
 pub codes-known : (h : Head) (xs : List Call) (a : Armed)
     → codesKnown (runBy h xs a .session .counters) (runBy h xs a .session .log) (runBy h xs a .session .marks) ≡ true
 codes-known h xs a = codes-steady (toldBy h a) (runBy h xs a .session) (run-steady h xs a)
@@ -150,6 +154,7 @@ module _ (h : Head) (a : Armed) (rows : ℕ) (k : Columns) (xs : List Call) (hol
   abbrev left : RanAt
   left = ranAt (Ended (ran .counters .stop) (ran .counters .operations) (length entries)) (ran .media) (ran .copy) (ran .log) (ran .marks) (entered entries e)
 
+  -- the run ends, with the stop, the operations and the entries of the script's run
   pub run-ended : runAtCall h a rows k media copy l m e ≡ left
   run-ended = at-call ∙ ap (ranAs ran) (ledger-is (toldBy h a) ran (run-steady h xs a) e w)
 

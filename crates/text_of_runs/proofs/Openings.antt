@@ -68,6 +68,7 @@ module _ (h : Head) (xs : List Call) (passes : geometryTest (h .geometry) ≡ 0)
   column-long : (column : List ℕ) → length column ≡ 1024 → length (take operations column) ≡ operations
   column-long column e = length-take-le operations column (rw e (steady .few-operations))
 
+  -- the geometry passes, the three columns are even, every kind is known, and there are at most 1,024 operations
   pub counts-pass : listTest (h .geometry) ks os ls true ≡ 0
   unfolding listTest firstOf unless
   counts-pass =
@@ -114,12 +115,14 @@ module _ (h : Head) (xs : List Call) (passes : geometryTest (h .geometry) ≡ 0)
         rw (none, holds)
         (ap (λ (s : Session). doneWith (wrote (toldBy h Nothing) (h .«carries_on») s xs)) (opened-is h media copy l m z))
 
+    -- whatever the columns held, opening leaves the fault-free run, and answers 24, 26 or how many operations and crash points there are
     pub open-is : openCall h rows k media copy l m ≡ left
     unfolding openCall
     open-is = rw (holds, run-is) done-is
 
   -- ---- the run at a place
 
+  -- nothing in run 0, then the crash points in order
   abbrev pub armedAt : (place : ℕ) → Armed
   armedAt zero = Nothing
   armedAt (suc i) = At (getD points i opening)
@@ -133,9 +136,11 @@ module _ (h : Head) (xs : List Call) (passes : geometryTest (h .geometry) ≡ 0)
   placed-is zero b = refl
   placed-is (suc i) b = ap armedBy (found-is i b)
 
+  -- the run of the sweep at that place is the script's run with it
   pub shown-at : (place : ℕ) → place ≤ length points → getD (runsShown h xs faultFree) place (runShown h xs Nothing) ≡ runShown h xs (armedAt place)
   shown-at zero b = refl
   shown-at (suc i) b = getD-map-lt (λ (j : Injection). runShown h xs (At j)) points i opening (runShown h xs Nothing) b
 
+  -- one run more than crash points
   pub runs-count : length (runsShown h xs faultFree) ≡ suc (length points)
   runs-count = ap suc (length-map points (λ (j : Injection). runShown h xs (At j)))

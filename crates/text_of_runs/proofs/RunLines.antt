@@ -36,12 +36,14 @@ suggested-few l = picked-few (λ (e : Entry). isCommitted e && not (isTorn e)) l
 
 -- three columns that hold a ledger
 module _ (place : ℕ) (r : Shown) (is ss ts : List ℕ) (holds : ledgerOf is ss ts ≡ r .ledger) (sound : refused is ss ts ≡ 0) where
+  -- `sweep_line` on them writes the run's line
   pub sweep-written : (at : ℕ) (out : List ℕ) → sweepPut place (r .injection) (r .stop) (r .operations) is ss ts at out ≡ put 0 (sweepLine place r) at out
   unfolding sweepPut
   sweep-written at out =
       λ i. put (sound i) (sweepLine place (record { injection = r .injection; stop = r .stop; operations = r .operations; ledger = holds i })) at out
 
   module _ (column : List ℕ) (room : length (suggested (r .ledger)) ≤ length column) where
+    -- `suggested` on them writes the suggested history at the front of a column with room for it
     pub judge-history : suggestedWritten is ss ts column
         ≡ record { answer = ListIs (length (suggested (r .ledger))); column = suggested (r .ledger) ++ drop (length (suggested (r .ledger))) column }
     unfolding suggestedWritten firstOf unless
@@ -56,6 +58,7 @@ module _ (place : ℕ) (r : Shown) (is ss ts : List ℕ) (holds : ledgerOf is ss
   unfolding verified
   verdict-is = rw (sound, holds)
 
+  -- and the verdict on both gives the run's line of `judge`
   pub judge-written : judgedLine place (numberOf (verified is ss ts (suggested (r .ledger)) [] Absent)) (suggested (r .ledger)) ≡ judgeLine place r
   unfolding judgeLine
   judge-written = ap (λ (v : Verdict). judgedLine place (numberOf v) (suggested (r .ledger))) verdict-is

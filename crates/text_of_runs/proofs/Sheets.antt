@@ -1,5 +1,6 @@
 -- The rows that reading a script writes are never refused by a run.
 --     head-passes     line 1 of a script that was read has a geometry that passes
+--     head-small      and a capacity of at most 16,384
 --     rows-pass       nor do its rows refuse a run that is lent columns long enough
 -- Assumes nothing.
 use mathlib.Core.Path.{_≡_, refl, sym, ap, _∙_}
@@ -10,9 +11,9 @@ use native.Mathlib.Omega.{arith}
 use lib.ListN.{length, take, drop, length-append, length-drop, length-map}
 use lib.Seq.{take-at}
 use lib.Dec.{eqb, leb, ltb}
-use borrow.Author.Tests.{eqb-true, le-ltb, eq-eqb}
+use borrow.Author.Tests.{leb-true, eqb-true, le-ltb, eq-eqb}
 use Rattle.basics.specs.Tests.{unless, refuseIf, firstOf}
-use Rattle.basics.proofs.Tests.{firstOf-zero}
+use Rattle.basics.proofs.Tests.{unless-zero, firstOf-zero}
 use Rattle.storage.specs.Geometry.{geometryTest}
 use Rattle.session.specs.Tests.{sizeTest}
 use Rattle.text.specs.Lines.{TextLine, linesOf}
@@ -47,11 +48,20 @@ lines-pass : (ls : List TextLine) (h : Head) (cs : List Call) → withLines ls �
 lines-pass [] h cs e = absurd (let z : _≡_ {A = ℕ} 0 1 = cc in omega arith)
 lines-pass (l ∷ ls) h cs e = first-passes (firstOfLine l) ls h cs e
 
-pub head-passes : (text : List ℕ) (h : Head) (cs : List Call) → scriptOf text ≡ script h cs → geometryTest (h .geometry) ≡ 0
+both-pass : (text : List ℕ) (h : Head) (cs : List Call) → scriptOf text ≡ script h cs
+    → (geometryTest (h .geometry) ≡ 0) × (firstOf (unless (leb (h .geometry .capacity) 16384) 10 ∷ []) ≡ 0)
 unfolding scriptOf headTest
-head-passes text h cs e =
+both-pass text h cs e =
     let a = kept (leb (length text) 65536) (withLines (linesOf text)) 9 0 h cs e in
-    firstOf-zero (geometryTest (h .geometry)) (unless (leb (h .geometry .capacity) 16384) 10 ∷ []) (lines-pass (linesOf text) h cs (a .1)) .0
+    firstOf-zero (geometryTest (h .geometry)) (unless (leb (h .geometry .capacity) 16384) 10 ∷ []) (lines-pass (linesOf text) h cs (a .1))
+
+pub head-passes : (text : List ℕ) (h : Head) (cs : List Call) → scriptOf text ≡ script h cs → geometryTest (h .geometry) ≡ 0
+head-passes text h cs e = both-pass text h cs e .0
+
+pub head-small : (text : List ℕ) (h : Head) (cs : List Call) → scriptOf text ≡ script h cs → h .geometry .capacity ≤ 16384
+head-small text h cs e =
+    let sizes = unless (leb (h .geometry .capacity) 16384) 10 in
+    leb-true (h .geometry .capacity) 16384 (unless-zero (leb (h .geometry .capacity) 16384) 9 (firstOf-zero sizes [] (both-pass text h cs e .1) .0))
 
 -- ---- the rows
 
@@ -139,6 +149,7 @@ module _ (text : List ℕ) (h : Head) (xs : List Call) (e : scriptOf text ≡ sc
       rw (sheet-kept .pool-long, first-kinds, first-seconds, first-starts)
       (all-inside 32768 0 xs (let b = enough text h xs e .bytes in omega arith))
 
+  -- the geometry and every row pass: letters with a meaning, and each program's bytes in the pool
   pub rows-pass : (media copy : ℕ) → media ≡ h .geometry .capacity → copy ≡ h .geometry .capacity → (uneven short : Bool) → uneven ≡ false → short ≡ false
       → rowsNumber (h .geometry) media copy uneven short (length xs) (written xs k) ≡ 0
   unfolding rowsNumber runLengths runContents sizeTest firstOf unless refuseIf

@@ -1,7 +1,7 @@
 -- No line of a run is longer than 11,915 bytes: a number has at most 20 digits, an entry's field at most 22 bytes, and a ledger at most 512
 -- entries.
 --     decimal-few               a number's digits
---     sweep-short, judge-short  the lines of a run
+--     sweep-short, judge-short  the lines of a run; `runs-short` and `refused-short` the others
 --     put-past                  bytes that fit are written
 -- Assumes nothing.
 use mathlib.Core.Path.{_≡_, refl}
@@ -27,7 +27,7 @@ use Rattle.session.specs.declared.Armed.the-variants.{Nothing, At}
 use Rattle.text.specs.Numbers.{decimalIn, decimalOf}
 use Rattle.script.specs.Print.{joined}
 use Rattle.lines.specs.declared.Line.the-variants.{Past}
-use Rattle.lines.specs.Lines.{Shown, letter, progressField, pointFields, stopField, stateLetter, entryField, line, sweepLine, suggested, judgedLine, judgeLine}
+use Rattle.lines.specs.Lines.{Shown, letter, progressField, pointFields, stopField, stateLetter, entryField, line, sweepLine, suggested, judgedLine, judgeLine, runsLine, refusedText}
 use Rattle.lines.specs.Answers.{put}
 use Rattle.text_of_runs.proofs.RunLines.{suggested-few}
 
@@ -134,6 +134,25 @@ module _ (place : ℕ) (r : Shown) (few : length (r .ledger) ≤ 512) where
       let h : length (judgedLine place v history) ≤ 23 * (2 + length history) + 1 = judged-short place v history in
       let s : length history ≤ length (r .ledger) = suggested-few (r .ledger) in
       omega arith
+
+-- a word of at most 22 letters, and numbers
+pub runs-short : (count : ℕ) → length (runsLine count) ≤ 11915
+runs-short count =
+    let word : List ℕ = 114 ∷ 117 ∷ 110 ∷ 115 ∷ [] in
+    let fs : List (List ℕ) = word ∷ decimalOf count ∷ [] in
+    let h : length (line fs) ≤ 23 * length fs + 1 =
+    line-short fs (each-cons Field word _ (omega arith) (each-cons Field (decimalOf count) _ (decimal-field count) (each-none Field))) in
+    omega arith
+
+pub refused-short : (number at : ℕ) → length (refusedText number at) ≤ 11915
+refused-short number at =
+    let word : List ℕ = 114 ∷ 101 ∷ 102 ∷ 117 ∷ 115 ∷ 101 ∷ 100 ∷ [] in
+    let fs : List (List ℕ) = word ∷ decimalOf number ∷ decimalOf at ∷ [] in
+    let h : length (line fs) ≤ 23 * length fs + 1 =
+    line-short fs
+    (each-cons Field word _ (omega arith)
+    (each-cons Field (decimalOf number) _ (decimal-field number) (each-cons Field (decimalOf at) _ (decimal-field at) (each-none Field)))) in
+    omega arith
 
 pub put-past : (bytes : List ℕ) (at : ℕ) (out : List ℕ) → at + length bytes ≤ length out
     → put 0 bytes at out ≡ record { reply = Past (at + length bytes); out = overlaid out at bytes }

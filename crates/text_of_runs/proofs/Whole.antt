@@ -32,10 +32,12 @@ use Rattle.sweeps.specs.Decided.{meets26, runShown, runsShown, decidedBy, decid
 use Rattle.sweeps.proofs.Decided.{swept-script}
 use Rattle.harness_runs.specs.Running.{RanAt, runAtNumber, runAtCall}
 use Rattle.text_of_runs.specs.Lent.{Sheet, Desk, Book}
-use Rattle.text_of_runs.specs.Claim.{rowsTo, RunPrinted, PlacePrinted, Opens, runLines, Outputs, Printed, unread, unswept, swept}
-use Rattle.text_of_runs.proofs.Sheets.{head-passes, rows-pass}
+use Rattle.text_of_runs.specs.Claim.{rowsTo, RunPrinted, PlacePrinted, Opens, SweepPrinted, Claim, runLines, Outputs, Printed, unread, unswept, swept}
+use Rattle.text_of_runs.proofs.Sheets.{head-passes, head-small, rows-pass}
 use Rattle.text_of_runs.proofs.Ledgers.{run-ended, run-reads, few-entries}
 use Rattle.text_of_runs.proofs.RunLines.{suggested-few, sweep-written, judge-history, history-first, judge-written}
+use Rattle.text_of_runs.proofs.Steady.{run-steady}
+use Rattle.text_of_runs.proofs.Counts.{points-few}
 use Rattle.text_of_runs.proofs.Short.{sweep-short, judge-short}
 use Rattle.text_of_runs.proofs.Openings.{left, open-is, armedAt, placed-is, shown-at, runs-count}
 
@@ -147,9 +149,11 @@ module _ (text : List ℕ) (h : Head) (xs : List Call) (e : scriptOf text ≡ sc
       count = length (shown .ledger);
       rows = first;
       ended = ap (λ (x : RanAt). x .reply) (run-ended h a (length xs) sheet xs holds media copy l m b d w unrefused);
+      few-entries = few-entries h xs a;
       rows-are = refl;
       swept = sweep-written place shown (first .ids) (first .states) (first .torn) (reads-ledger .0) (reads-ledger .1);
       history = suggested (shown .ledger);
+      few-suggested = le-trans (suggested-few (shown .ledger)) (few-entries h xs a);
       suggests = λ column c. (
         ap (λ (x : Written). x .answer) (judge-history place shown (first .ids) (first .states) (first .torn) (reads-ledger .0) (reads-ledger .1) column (room column c)),
         history-first place shown (first .ids) (first .states) (first .torn) (reads-ledger .0) (reads-ledger .1) column (room column c),
@@ -194,16 +198,23 @@ module _ (text : List ℕ) (h : Head) (xs : List Call) (e : scriptOf text ≡ sc
       unswept h (length xs) (length (bytesOf xs)) sheet (left h xs passes) 26 reads opens (rw (p, q)) (outputs-by text (notSwept 26 0) (decided-is ∙ rw (p, q)))
   by-ways false false p q =
       let o = outputs-by text (runs (runsShown h xs faultFree)) (decided-is ∙ rw (p, q)) in
-      swept h (length xs) (length (bytesOf xs)) sheet (left h xs passes) (faultFree .counters .operations) points (lineBy sweepLine) (lineBy judgeLine) reads opens (rw (p, q))
-      place-printed (record { sweep-is = o .sweep-is ∙ text-by sweepLine; judge-is = o .judge-is ∙ text-by judgeLine })
+      let w : SweepPrinted h (length xs) sheet (left h xs passes) (faultFree .counters .operations) points (lineBy sweepLine) (lineBy judgeLine) =
+      record {
+        opened = rw (p, q);
+        few-operations = run-steady h xs Nothing .few-operations;
+        few-points = points-few h xs Nothing (head-small text h xs e);
+        at-places = place-printed;
+      } in
+      swept h (length xs) (length (bytesOf xs)) sheet (left h xs passes) (faultFree .counters .operations) points (lineBy sweepLine) (lineBy judgeLine) reads opens w
+      (record { sweep-is = o .sweep-is ∙ text-by sweepLine; judge-is = o .judge-is ∙ text-by judgeLine })
 
 -- ---- every text
 
-module _ (text : List ℕ) (k : Columns) (z : Sheet k) where
-  by-script : (s : Script) → scriptOf text ≡ s → Printed text k
-  unfolding readInto
-  by-script (refused number line) e = unread number line (rw e) (outputs-by text (notSwept number line) (swept-script text ∙ ap decidedScript e))
-  by-script (script h xs) e = by-ways text h xs e k z (runBy h xs Nothing .failed) (meets26 h xs) refl refl
+by-script : (text : List ℕ) (k : Columns) → Sheet k → (s : Script) → scriptOf text ≡ s → Printed text k
+unfolding readInto
+by-script text k z (refused number line) e = unread number line (rw e) (outputs-by text (notSwept number line) (swept-script text ∙ ap decidedScript e))
+by-script text k z (script h xs) e = by-ways text h xs e k z (runBy h xs Nothing .failed) (meets26 h xs) refl refl
 
-  pub printed : Printed text k
-  printed = by-script (scriptOf text) refl
+-- a script that is refused, a sweep that is refused by 24 or 26, or the count of runs and the line of each: there is no other way
+pub printed : Claim
+printed text k z = by-script text k z (scriptOf text) refl

@@ -24,7 +24,7 @@ use Rattle.harness.specs.Opening.{OpenLeft, openCall}
 use Rattle.harness.specs.Places.{placedAt}
 use Rattle.harness_runs.specs.declared.RunAt.the-variants.{Ended}
 use Rattle.harness_runs.specs.Running.{RanAt, runAtCall}
-use Rattle.text_of_runs.specs.Lent.{Desk, Book}
+use Rattle.text_of_runs.specs.Lent.{Sheet, Desk, Book}
 
 -- ---- one run
 
@@ -40,11 +40,13 @@ pub record RunPrinted (place : ℕ) (armed : Armed) (ran : RanAt) (sweep judge :
   pub rows : Entered
   -- the run ended: it is never refused; its ledger is the first `count` rows of the columns
   pub ended : ran .reply ≡ Ended stop operations count
+  pub few-entries : count ≤ 512
   pub rows-are : rows ≡ rowsTo count (ran .entries)
   -- `sweep_line` on those rows writes the run's line of `sweep`, unless it does not fit
   pub swept : (at : ℕ) (out : List ℕ) → sweepPut place armed stop operations (rows .ids) (rows .states) (rows .torn) at out ≡ put 0 sweep at out
   -- `suggested` on those rows leaves a history in a column of 512
   pub history : List ℕ
+  pub few-suggested : length history ≤ 512
   pub suggests : (column : List ℕ) → length column ≡ 512
       → (suggestedWritten (rows .ids) (rows .states) (rows .torn) column .answer ≡ ListIs (length history))
       × (take (length history) (suggestedWritten (rows .ids) (rows .states) (rows .torn) column .column) ≡ history)
@@ -73,6 +75,13 @@ unfoldable pub runLines : (line : (place : ℕ) → List ℕ) → (runs place : 
 runLines line zero place = []
 runLines line (suc n) place = line place ++ runLines line n (suc place)
 
+-- a sweep that was opened: how many operations and crash points there are, neither too many, and the run at each place
+pub record SweepPrinted (h : Head) (rows : ℕ) (k : Columns) (o : OpenLeft) (operations points : ℕ) (sweep judge : ℕ → List ℕ) : Type 0 where
+  pub opened : o .reply ≡ Runs operations points
+  pub few-operations : operations ≤ 1024
+  pub few-points : points ≤ 50337794
+  pub at-places : (place : ℕ) → place ≤ points → PlacePrinted h rows k (o .log) operations place (sweep place) (judge place)
+
 -- what the two programs print
 pub record Outputs (text sweep judge : List ℕ) : Type 0 where
   pub sweep-is : sweepOutput text ≡ sweep
@@ -87,6 +96,9 @@ pub data Printed (text : List ℕ) (k : Columns) : Type 0 where
       → Opens h rows sheet o → o .reply ≡ NotSwept number → Outputs text (refusedText number 0) (refusedText number 0) → Printed text k
   -- the count of runs, and a line for each place
   swept : (h : Head) (rows bytes : ℕ) (sheet : Columns) (o : OpenLeft) (operations points : ℕ) (sweep judge : ℕ → List ℕ)
-      → readInto text k ≡ after (Read h rows bytes) sheet → Opens h rows sheet o → o .reply ≡ Runs operations points
-      → ((place : ℕ) → place ≤ points → PlacePrinted h rows sheet (o .log) operations place (sweep place) (judge place))
+      → readInto text k ≡ after (Read h rows bytes) sheet → Opens h rows sheet o → SweepPrinted h rows sheet o operations points sweep judge
       → Outputs text (runsLine (suc points) ++ runLines sweep (suc points) 0) (runsLine (suc points) ++ runLines judge (suc points) 0) → Printed text k
+
+-- The claim: whatever the text, and whatever the columns of 32,768 rows hold that it is read into.
+abbrev pub Claim : Type 0
+Claim = (text : List ℕ) (k : Columns) → Sheet k → Printed text k
