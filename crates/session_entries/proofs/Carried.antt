@@ -7,7 +7,7 @@ use Prim.Native.Nat.{ℕ, _<_, _≤_}
 use native.Mathlib.Omega.{arith}
 use lib.ListN.{length, getD, set}
 use lib.Seq.{getD-set-same, getD-set-other}
-use lib.Dec.{eqb}
+use lib.Dec.{eqb, ltb}
 use borrow.Author.Tests.{eqb-true, ltb-false, not-false}
 use Rattle.basics.specs.Tests.{refuseIf}
 use Rattle.basics.proofs.Tests.{refuse-zero, firstOf-zero}
@@ -24,7 +24,7 @@ use Rattle.session.specs.Written.{Landing, Written, written, landedSo, writtenB
 use Rattle.session.proofs.Refusals.{operation-room}
 use Rattle.session_entries.proofs.Fill.{fill, fill-store}
 use Rattle.session_entries.proofs.Correspond.{rows-fill, kinds-fill, offsets-fill, lens-fill, digests-fill, changed-fill, answered-fill}
-use Rattle.session_entries.specs.Entries.{noEntry, rowOf, withRows, withEntries, OfLength, recordedBy, storedBy}
+use Rattle.session_entries.specs.Entries.{noEntry, rowOf, withRows, withEntries, movedTest, movedNumber, OfLength, recordedBy, storedBy}
 
 -- ---- one operation recorded, and one entry stored
 
@@ -112,6 +112,14 @@ taken-fits l operations z y =
     let long = ltb-false (length (l .kinds)) 1024 (refuse-zero (logShort (length (l .kinds))) 12 (firstOf-zero (refuseIf (logShort (length (l .kinds))) 13) [] (zs .1) .0)) in
     let low = operation-room operations y in
     ((refl, even .0, even .1, even .2, even .3, even .4), omega (arith, long, low))
+
+-- columns that can be handed on are of one length, and there is room for the rows
+pub moved-fits : (l : Log) (rows room : ℕ) → movedNumber l rows room ≡ 0 → OfLength (length (l .kinds)) l × (rows ≤ room)
+unfolding movedTest
+moved-fits l rows room z =
+    let zs = firstOf-zero (refuseIf (logUnevenOf l) 12) (refuseIf (ltb room rows) 13 ∷ []) z in
+    let even = even-lengths _ _ _ _ _ _ (refuse-zero (logUnevenOf l) 11 (zs .0)) in
+    ((refl, even .0, even .1, even .2, even .3, even .4), ltb-false room rows (refuse-zero (ltb room rows) 12 (firstOf-zero (refuseIf (ltb room rows) 13) [] (zs .1) .0)))
 
 -- whatever the number: the columns that a call leaves are, seen as entries, the entries that it leaves
 by-case : (t : Bool) (l : Log) (log : List Entry) (n i : ℕ) (e : Entry) → (t ≡ true → OfLength n l × (i < n)) → n ≤ length log → withRows (cond t (logged l i e) l) log n ≡ cond t (set (withRows l log n) i e) (withRows l log n)

@@ -21,7 +21,7 @@ no-rows : (number rows : ℕ) → (number ≡ 0 → ⊥) → movedRows number ro
 unfolding movedRows
 no-rows number rows ne = ap (λ (t : Bool). cond t rows 0) (ne-eqb number 0 ne)
 
-all-rows : (number rows : ℕ) → number ≡ 0 → movedRows number rows ≡ rows
+pub all-rows : (number rows : ℕ) → number ≡ 0 → movedRows number rows ≡ rows
 unfolding movedRows
 all-rows number rows e = ap (λ (t : Bool). cond t rows 0) (eq-eqb number 0 e)
 

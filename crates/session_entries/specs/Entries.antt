@@ -8,7 +8,7 @@ use lib.ListN.{length, getD, set}
 use lib.Dec.{eqb, ltb}
 use Rattle.basics.specs.Tests.{unless, refuseIf, firstOf}
 use Rattle.session.specs.declared.Entry.{Entry}
-use Rattle.session.specs.Log.{Log, logOf, logged}
+use Rattle.session.specs.Log.{Log, logged}
 use Rattle.session.specs.Tests.{logUneven}
 use Rattle.session_entries.specs.declared.EntryAnswer.{EntryAnswer}
 use Rattle.session_entries.specs.declared.EntryAnswer.the-variants.{Found, NotThere}

@@ -1,7 +1,6 @@
 -- `session_entries::moved_rows` meets its contract. Assumes nothing.
 use borrow.Author.Tests.{eq-eqb, ne-eqb}
 use Rattle.session_entries.specs.Entries.{movedRows}
-use borrow.Author.Needs.{needs}
 use Rattle.session_entries.proofs.moved_rows.Statement.{statement}
 use Rattle.session_entries.proofs.moved_rows.Tie as tie
 

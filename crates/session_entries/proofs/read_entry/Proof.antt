@@ -30,7 +30,6 @@ use denote.Builtin.{usize}
 use denote.Ref.{RefT}
 use denote.Slice.{sliceVal, slice-vals, ShrSlice, shr-slice-tells}
 use denote.Index.{place-is, elem-out, elem-back, looks-slice, shuts-slice}
-use denote.Signature.{plain}
 use denote.Steps.{only, owned, nothing}
 use denote.Struct.Laws as LL
 use denote.Enum.Laws as EL
