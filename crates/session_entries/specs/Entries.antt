@@ -17,7 +17,8 @@ use Rattle.session_entries.specs.declared.EntryAnswer.the-variants.{Foun
 abbrev pub noEntry : Entry
 noEntry = record { kind = 0; offset = 0; len = 0; digest = 0; changed = 0; answered = 0 }
 
--- "11: .. place not below the count": document 01's number for a place in a list, here of a log with `count` entries
+-- Document 01 numbers a place outside a list for crash points alone, "11: crash-point place not below the count"; an index outside
+-- a log of `count` entries has the same number
 unfoldable pub placeTest : (index count : ℕ) → ℕ
 placeTest i count = unless (ltb i count) 11
 
