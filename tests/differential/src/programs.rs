@@ -126,21 +126,19 @@ fn difference(program: Program, text: &[u8], pieces: usize) -> Difference {
     Difference(format!("{shown}found at  {}", shown_script(text)))
 }
 
-/// The first line that differs, with the one before it.
+/// The first line that differs, of a long one what is around the first byte that does.
 fn first_difference(name: &str, rust: &[u8], ours: &[u8]) -> String {
-    let lines = |text: &[u8]| -> Vec<String> {
-        text.split_inclusive(|&byte| byte == b'\n').map(|line| line.escape_ascii().to_string()).collect()
+    let same = rust.iter().zip(ours).take_while(|(a, b)| a == b).count();
+    let start = rust[..same].iter().rposition(|&byte| byte == b'\n').map_or(0, |place| place + 1);
+    let line = rust[..start].iter().filter(|&&byte| byte == b'\n').count() + 1;
+    let shown = |text: &[u8]| {
+        let end = text[start..].iter().position(|&byte| byte == b'\n').map_or(text.len(), |place| start + place + 1);
+        let (from, to) = (start.max(same.saturating_sub(100)), end.min(same + 100));
+        let (cut, more) = (if from > start { ".." } else { "" }, if to < end { ".." } else { "" });
+        let lines = text.iter().filter(|&&byte| byte == b'\n').count();
+        format!("{cut}\"{}\"{more} (of {lines} lines)", text[from..to].escape_ascii())
     };
-    let (rust, ours) = (lines(rust), lines(ours));
-    let place = rust.iter().zip(&ours).position(|(a, b)| a != b).unwrap_or(rust.len().min(ours.len()));
-    let shown = |lines: &[String]| {
-        let mut found = String::new();
-        for line in lines.iter().take(place + 1).skip(place.saturating_sub(1)) {
-            found += &format!("\"{line}\" ");
-        }
-        format!("{found}({} lines)", lines.len())
-    };
-    format!("{name}, line {}\nthe Rust  {}\nthis      {}\n", place + 1, shown(&rust), shown(&ours))
+    format!("{name}, line {line}\nthe Rust  {}\nthis      {}\n", shown(rust), shown(ours))
 }
 
 /// A script as it is given to printf; lines that are the same once, with how often they come.
@@ -503,8 +501,10 @@ fn cost_of(text: &[u8]) -> u64 {
 
 fn random_script(random: &mut Random) -> Vec<u8> {
     loop {
+        // A few may be dearer: those that pass the limit of operations are.
+        let dearest = if random.below(16) == 0 { 8 * DEAREST } else { DEAREST };
         let text = any_script(random);
-        if cost_of(&text) <= DEAREST {
+        if cost_of(&text) <= dearest {
             return text;
         }
     }
@@ -512,18 +512,34 @@ fn random_script(random: &mut Random) -> Vec<u8> {
 
 fn any_script(random: &mut Random) -> Vec<u8> {
     let text = well_formed(random);
-    match random.below(8) {
-        0 => damaged_line(random, &text),
-        1 => {
+    match random.below(32) {
+        0..4 => damaged_line(random, &text),
+        4..8 => {
             let mut text = text.into_bytes();
             for _ in 0..1 + random.below(2) {
                 script::change(random, &mut text);
             }
             text
         }
-        2 if random.below(32) == 0 => script::padded(&text, "N\n", MOST_TEXT + random.below(2) as usize),
+        8 => crowded(random, &text),
+        9 if random.below(8) == 0 => script::padded(&text, "N\n", MOST_TEXT + random.below(2) as usize),
         _ => text.into_bytes(),
     }
+}
+
+/// With as many marks or operations more as a session takes, or a few less or more.
+fn crowded(random: &mut Random, text: &str) -> Vec<u8> {
+    let lines: Vec<&str> = text.split_inclusive('\n').collect();
+    let (before, after) = lines.split_at(1 + random.below(lines.len() as u32) as usize);
+    let (line, most) = match random.below(8) {
+        0 => ("S\n", MOST_OPERATIONS),
+        1 => ("P\t0\t\n", MOST_OPERATIONS),
+        2..5 => ("N\n", MOST_MARKS),
+        5 => ("M\t6\t0\t1\n", MOST_MARKS / 2),
+        _ => ("B\t6\n", MOST_MARKS),
+    };
+    let times = (most + 2).saturating_sub(random.below(32) as usize);
+    [before.concat(), line.repeat(times), after.concat()].concat().into_bytes()
 }
 
 fn well_formed(random: &mut Random) -> String {
@@ -643,7 +659,8 @@ impl Plan {
     fn program(&mut self, random: &mut Random, at_cursor: bool) {
         let [capacity, _, unit, _] = self.units;
         let most = (64 / unit).max(u32::from(unit <= 512 && random.below(8) == 0));
-        let mut len = unit * random.below(most.min(capacity / unit) + 1).min(random.pick(&[1, 2, 4, 16, 64]));
+        let most = most.min(capacity / unit).min(random.pick(&[1, 2, 4, 16, 64]));
+        let mut len = if most == 0 || random.below(8) == 0 { 0 } else { unit * (1 + random.below(most)) };
         let mut offset = if at_cursor { self.cursor } else { random.below(capacity / unit + 1) * unit };
         if offset + len > capacity {
             offset = random.below(2) * (capacity - len);
