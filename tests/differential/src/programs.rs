@@ -385,10 +385,17 @@ fn of_most_bytes(found: &mut Vec<Limit>) {
         let mut unended = script::padded(carries_on, "N\n", size);
         unended[size - 1] = b'1';
         put(found, format!("{what}, the last line without LF"), unended);
-        let program = format!("P\t0\t{}\n", bytes(MOST_BYTES));
-        put_slow(found, format!("{what}, P lines of 4,096 bytes"), script::padded(&head("a\ts"), &program, size));
+        put_slow(found, format!("{what}, P lines of 4,096 bytes"), of_programs(size));
     }
     put(found, "a million bytes", "N\n".repeat(500_000));
+}
+
+/// A script of so many bytes: programs of 4,096 bytes, and one of what is left.
+fn of_programs(size: usize) -> String {
+    let text = head("a\ts") + &format!("P\t0\t{}\n", bytes(MOST_BYTES)).repeat(size / (2 * MOST_BYTES + 5));
+    let rest = size - text.len();
+    let offset = if rest % 2 == 1 { "0" } else { "10" };
+    text + &format!("P\t{offset}\t{}\n", bytes((rest - offset.len() - 4) / 2))
 }
 
 fn of_most_operations(found: &mut Vec<Limit>) {
