@@ -32,8 +32,10 @@ const LAYERS: &[Layer] = &[
     programs::LAYER,
 ];
 
-/// Samples that are no layer's.
-const SAMPLES: [(&str, fn() -> String); 2] = [("sweep", programs::sample_sweep), ("judge", programs::sample_judge)];
+/// A sample that is no layer's, by its name.
+type Sample = (&'static str, fn() -> String);
+
+const SAMPLES: [Sample; 2] = [("sweep", programs::sample_sweep), ("judge", programs::sample_judge)];
 
 /// Random inputs to each layer, where the caller does not say how many.
 const SIZE: u64 = 1_000_000;
