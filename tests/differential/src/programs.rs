@@ -141,7 +141,7 @@ fn first_difference(name: &str, rust: &[u8], ours: &[u8]) -> String {
     format!("{name}, line {line}\nthe Rust  {}\nthis      {}\n", shown(rust), shown(ours))
 }
 
-/// A script as it is given to printf; lines that are the same once, with how often they come.
+/// A script with its tabs and LFs to be seen; lines that are the same once, with how often they come.
 fn shown_script(text: &[u8]) -> String {
     let lines: Vec<&[u8]> = text.split_inclusive(|&byte| byte == b'\n').collect();
     let mut shown = String::new();
