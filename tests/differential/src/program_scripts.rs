@@ -1,5 +1,5 @@
 //! The scripts of the samples `sweep` and `judge`, in the order in which crates/sweep_cases and crates/judge_cases replay them. Each
-//! group is one byte string, with a semicolon after each script, and can stand in their source as it stands here.
+//! group is one byte string, with a semicolon after each script, and stands so in crates/program_cases.
 
 #[rustfmt::skip]
 pub const GROUPS: [&[u8]; 12] = [
