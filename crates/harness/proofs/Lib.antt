@@ -1,2 +1,3 @@
--- Document 01's worked example of a sweep, computed.
-pub mod Examples
+-- Laws of a sweep opened.
+pub mod Behind
+pub mod Parts

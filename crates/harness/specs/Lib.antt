@@ -1,3 +1,4 @@
--- Document 01, "Scripts and the two programs": the runs of a sweep, and what `sweep` and `judge` print. Definitions only; assumes nothing.
-pub mod Lines
-pub mod Sweep
+-- A sweep opened, and what is armed in each run. Definitions only; assumes nothing.
+pub mod Opening
+pub mod Places
+pub mod Inner

@@ -1,2 +1,240 @@
-// The runs of a sweep and the text of the two programs, as definitions: specs/Sweep.antt has every run from a script's bytes,
-// specs/Lines.antt the text. Document 01's worked example is computed from them in proofs/Examples.antt. There is no code here yet.
+// A sweep, opened: the fault-free run of a script's rows, which tells how many crash points there are or why there is no
+// sweep, and what is armed in each run. It follows `Harness` in waymaker-fault's session.rs, with a script's rows for its
+// closure. `harness_runs` has the other runs.
+use device::OneWayBits;
+use inject::Counted;
+use inject::Found;
+use script::Head;
+use session::Armed;
+use session::Told;
+use storage::Geometry;
+use writer::Ran;
+ghost use mathlib.Core.Path.{_≡_};
+ghost use Prim.Native.Nat.{_≤_, min};
+ghost use lib.ListN.{length};
+ghost use Rattle.session.specs.Log.{logOf, marksOf};
+ghost use Rattle.script.specs.Columns.{columns};
+ghost use Rattle.script.specs.Held.{callsIn};
+ghost use Rattle.script_rows.specs.Ready.{Ready};
+ghost use Rattle.sweeps.specs.Sweep.{ruleOf, toldBy};
+ghost use Rattle.sweeps.specs.Decided.{rangeBehind};
+ghost use Rattle.harness.specs.Opening.{openPoints, openLeft, openCall};
+ghost use Rattle.harness.specs.Places.{placedAt};
+ghost use Rattle.harness.specs.Inner.{isBehind, opsIn};
+
+// What opening a sweep answers: how many operations the fault-free run recorded, and how many crash points they have; or the
+// number that refuses the sweep.
+pub enum Opened {
+    Runs(usize, u64),
+    NotSwept(u32),
+}
+
+// What is armed in the run at a place.
+pub enum Placed {
+    Run(Armed),
+    NoRun(u32),
+}
+
+// ---- what a session is told
+
+fn rule_of(rejected: bool) -> OneWayBits
+    ensures { λ r. ⌜ r ≡ ruleOf rejected ⌝ }
+{
+    if rejected {
+        OneWayBits::Rejected
+    } else {
+        OneWayBits::Absorbed
+    }
+}
+
+// Line 1 and at most one injection.
+pub fn told_by(head: Head, armed: Armed) -> Told
+    ensures { λ r. ⌜ r ≡ toldBy head armed ⌝ }
+{
+    let geometry = head.geometry;
+    let bits = rule_of(head.rejected);
+    Told {
+        geometry,
+        bits,
+        armed,
+    }
+}
+
+// ---- the fault-free run
+
+// Whether a row marks a range behind so many operations.
+fn is_behind(kind: u8, from: u32, to: u32, operations: usize) -> bool
+    ensures { λ r. ⌜ r ≡ isBehind kind from to operations ⌝ }
+{
+    (kind == 77) & (((from as usize) < operations) | ((to as usize) < operations))
+}
+
+// How many operations a row is: none, if it is a mark.
+fn operations_in(kind: u8) -> usize
+    ensures { λ r. ⌜ (r ≡ opsIn kind) × (r ≤ 1) ⌝ }
+{
+    if (kind == 66) | (kind == 78) | (kind == 77) {
+        0
+    } else {
+        1
+    }
+}
+
+// Whether some row marks a range that begins or ends before an operation of an earlier row.
+fn range_behind(
+    rows: usize,
+    kinds: &[u8],
+    firsts: &[u32],
+    seconds: &[u32],
+    thirds: &[u32],
+    starts: &[u32],
+    pool: &[u8],
+) -> bool
+    requires { ⌜ Ready rows (columns (now kinds) (now firsts) (now seconds) (now thirds) (now starts) (now pool)) ⌝ }
+    ensures { λ r. ⌜ r ≡ rangeBehind 0 (callsIn rows (columns (now (kinds .entry)) (now (firsts .entry)) (now (seconds .entry)) (now (thirds .entry)) (now (starts .entry)) (now (pool .entry)))) ⌝ }
+{
+    let mut operations: usize = 0;
+    let mut i: usize = 0;
+    while i < rows {
+        let kind = kinds[i];
+        if is_behind(kind, seconds[i], thirds[i], operations) {
+            return true;
+        }
+        operations += operations_in(kind);
+        i += 1;
+    }
+    false
+}
+
+// The lower of two numbers.
+fn lower(a: usize, b: usize) -> usize
+    ensures { λ r. ⌜ (r ≡ min a b) × (r ≤ a) × (r ≤ b) ⌝ }
+{
+    if a < b { a } else { b }
+}
+
+// What a fault-free run that did not fail opens: its crash points, or 26.
+fn open_points(
+    head: Head,
+    operations: usize,
+    rows: usize,
+    kinds: &[u8],
+    firsts: &[u32],
+    seconds: &[u32],
+    thirds: &[u32],
+    starts: &[u32],
+    pool: &[u8],
+    ops: &[u8],
+    spans: &[u32],
+    sizes: &[u32],
+) -> Opened
+    requires { ⌜ (Ready rows (columns (now kinds) (now firsts) (now seconds) (now thirds) (now starts) (now pool))) × (length (now spans) ≡ length (now ops)) × (length (now sizes) ≡ length (now ops)) ⌝ }
+    ensures { λ r. ⌜ r ≡ openPoints head operations (callsIn rows (columns (now (kinds .entry)) (now (firsts .entry)) (now (seconds .entry)) (now (thirds .entry)) (now (starts .entry)) (now (pool .entry)))) (now (ops .entry)) (now (spans .entry)) (now (sizes .entry)) ⌝ }
+{
+    let behind = range_behind(rows, kinds, firsts, seconds, thirds, starts, pool);
+    let carries = head.carries_on;
+    if !carries & behind {
+        return Opened::NotSwept(26);
+    }
+    let n = lower(operations, ops.len());
+    let geometry = head.geometry;
+    let counted = inject::injection_count(&ops[..n], &spans[..n], &sizes[..n], geometry);
+    match counted {
+        Counted::Points(points) => Opened::Runs(operations, points),
+        Counted::NotCounted(number) => Opened::NotSwept(number),
+    }
+}
+
+// Opens a sweep: the fault-free run of a script's rows. Its operations are left in the log.
+pub fn open_sweep(
+    head: Head,
+    rows: usize,
+    kinds: &[u8],
+    firsts: &[u32],
+    seconds: &[u32],
+    thirds: &[u32],
+    starts: &[u32],
+    pool: &[u8],
+    media: &mut [u8],
+    copy: &mut [u8],
+    ops: &mut [u8],
+    spans: &mut [u32],
+    sizes: &mut [u32],
+    digests: &mut [u64],
+    changed: &mut [u8],
+    answered: &mut [u8],
+    marks: &mut [u8],
+    named: &mut [u32],
+    places: &mut [u64],
+) -> Opened
+    ensures { λ r. ⌜ openLeft r (now (media .exit)) (now (copy .exit)) (logOf (now (ops .exit)) (now (spans .exit)) (now (sizes .exit)) (now (digests .exit)) (now (changed .exit)) (now (answered .exit))) (marksOf (now (marks .exit)) (now (named .exit)) (now (places .exit))) ≡ openCall head rows (columns (now (kinds .entry)) (now (firsts .entry)) (now (seconds .entry)) (now (thirds .entry)) (now (starts .entry)) (now (pool .entry))) (now (media .entry)) (now (copy .entry)) (logOf (now (ops .entry)) (now (spans .entry)) (now (sizes .entry)) (now (digests .entry)) (now (changed .entry)) (now (answered .entry))) (marksOf (now (marks .entry)) (now (named .entry)) (now (places .entry))) ⌝ }
+{
+    let told = told_by(head, Armed::Nothing);
+    let carries = head.carries_on;
+    let ran = writer::run_script(
+        told,
+        carries,
+        rows,
+        kinds,
+        firsts,
+        seconds,
+        thirds,
+        starts,
+        pool,
+        media,
+        copy,
+        ops,
+        spans,
+        sizes,
+        digests,
+        changed,
+        answered,
+        marks,
+        named,
+        places,
+    );
+    match ran {
+        Ran::NotRun(number) => Opened::NotSwept(number),
+        Ran::Done(counters, failed) => {
+            if failed {
+                return Opened::NotSwept(24);
+            }
+            open_points(
+                head,
+                counters.operations,
+                rows,
+                kinds,
+                firsts,
+                seconds,
+                thirds,
+                starts,
+                pool,
+                ops,
+                spans,
+                sizes,
+            )
+        }
+    }
+}
+
+// ---- the runs in order
+
+// What is armed in the run at a place: nothing in run 0, then the crash points of the operations, in order.
+pub fn point_at(
+    place: u64,
+    geometry: Geometry,
+    kinds: &[u8],
+    offsets: &[u32],
+    lens: &[u32],
+) -> Placed
+    ensures { λ r. ⌜ r ≡ placedAt place geometry (now (kinds .entry)) (now (offsets .entry)) (now (lens .entry)) ⌝ }
+{
+    if place == 0 {
+        return Placed::Run(Armed::Nothing);
+    }
+    let found = inject::injection_at(kinds, offsets, lens, geometry, place - 1);
+    match found {
+        Found::Point(injection) => Placed::Run(Armed::At(injection)),
+        Found::NotFound(number) => Placed::NoRun(number),
+    }
+}

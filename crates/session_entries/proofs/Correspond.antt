@@ -1,58 +1,15 @@
 -- A log of entries and a log in columns of one length are the same log: handing it on and getting it back, either way round, gives
 -- what was there. Assumes nothing.
-use mathlib.Core.Path.{_≡_, refl, sym, ap, subst, _∙_}
-use mathlib.Core.Logic.{⊎-elim}
+use mathlib.Core.Path.{_≡_, refl, ap, _∙_}
 use mathlib.Core.List.{List}
-use Prim.Native.Nat.{ℕ, zero, suc, _<_, _≤_}
-use native.Mathlib.Omega.{arith}
-use lib.ListN.{length, getD, set, length-set}
-use lib.Seq.{ext-getD, getD-set-same, getD-set-other}
-use Rattle.basics.proofs.Tests.{le-or-gt}
+use Prim.Native.Nat.{ℕ, zero, suc, _<_}
+use lib.ListN.{length, getD, set}
 use Rattle.session.specs.declared.Entry.{Entry}
-use Rattle.session.specs.Log.{Log, logOf, logged}
+use Rattle.session.specs.Log.{Log}
+use Rattle.session_entries.proofs.Fill.{fill, fill-at, filled, at-most}
 use Rattle.session_entries.specs.Entries.{noEntry, rowOf, withRows, withEntries, OfLength}
 
--- a list with `f i` at each i below n
-abbrev fill : {A : Type 0} → (ℕ → A) → List A → (n : ℕ) → List A
-fill f xs zero = xs
-fill f xs (suc i) = set (fill f xs i) i (f i)
-
-fill-length : {A : Type 0} (f : ℕ → A) (xs : List A) (n : ℕ) → length (fill f xs n) ≡ length xs
-fill-length f xs zero = refl
-fill-length f xs (suc i) = length-set (fill f xs i) i (f i) ∙ fill-length f xs i
-
-no-lt-zero : {X : Type 0} (i : ℕ) → i < 0 → X
-no-lt-zero i l = absurd (omega (arith, l))
-
-same : (i m : ℕ) → i < suc m → m ≤ i → m ≡ i
-same i m l h = omega (arith, l, h)
-
-less : (m n : ℕ) → suc m ≤ n → m ≤ n
-less m n h = omega (arith, h)
-
-inside : (m n k : ℕ) → suc m ≤ n → k ≡ n → m < k
-inside m n k h e = omega (arith, h, e)
-
-fill-at : {A : Type 0} (d : A) (f : ℕ → A) (xs : List A) (n i : ℕ) → i < n → n ≤ length xs → getD (fill f xs n) i d ≡ f i
-fill-at d f xs zero i l h = no-lt-zero i l
-fill-at d f xs (suc m) i l h =
-    ⊎-elim
-    (λ (g : m ≤ i). subst (λ (j : ℕ). getD (set (fill f xs m) m (f m)) j d ≡ f j) (same i m l g) (getD-set-same (fill f xs m) m (f m) d (inside m (length xs) (length (fill f xs m)) h (fill-length f xs m))))
-    (λ (g : i < m). getD-set-other (fill f xs m) m i (f m) d (λ (e : i ≡ m). omega (arith, e, g)) ∙ fill-at d f xs m i g (less m (length xs) h))
-    (le-or-gt m i)
-
-low : (i n k : ℕ) → i < k → k ≡ n → i < n
-low i n k l e = omega (arith, l, e)
-
-at-most : (n k : ℕ) → k ≡ n → n ≤ k
-at-most n k e = omega (arith, e)
-
--- a list of n cells that is filled with the cells of another is the other
-filled : {A : Type 0} (d : A) (f : ℕ → A) (xs ys : List A) (n : ℕ) → length xs ≡ n → length ys ≡ n → ((i : ℕ) → i < n → f i ≡ getD ys i d) → fill f xs n ≡ ys
-filled d f xs ys n p q g =
-    ext-getD d (fill f xs n) ys (fill-length f xs n ∙ p ∙ sym q) (λ i l. fill-at d f xs n i (low i n (length (fill f xs n)) l (fill-length f xs n ∙ p)) (at-most n (length xs) p) ∙ g i (low i n (length (fill f xs n)) l (fill-length f xs n ∙ p)))
-
-rows-fill : (l : Log) (log : List Entry) (n : ℕ) → withRows l log n ≡ fill (rowOf l) log n
+pub rows-fill : (l : Log) (log : List Entry) (n : ℕ) → withRows l log n ≡ fill (rowOf l) log n
 rows-fill l log zero = refl
 rows-fill l log (suc i) = ap (λ (xs : List Entry). set xs i (rowOf l i)) (rows-fill l log i)
 
@@ -60,27 +17,27 @@ rows-fill l log (suc i) = ap (λ (xs : List Entry). set xs i (rowOf l i)) (rows-
 pub entry-is-row : (l : Log) (log : List Entry) (n i : ℕ) → length log ≡ n → i < n → getD (withRows l log n) i noEntry ≡ rowOf l i
 entry-is-row l log n i p h = ap (λ (xs : List Entry). getD xs i noEntry) (rows-fill l log n) ∙ fill-at noEntry (rowOf l) log n i h (at-most n (length log) p)
 
-kinds-fill : (log : List Entry) (l : Log) (n : ℕ) → withEntries log l n .kinds ≡ fill (λ i. getD log i noEntry .kind) (l .kinds) n
+pub kinds-fill : (log : List Entry) (l : Log) (n : ℕ) → withEntries log l n .kinds ≡ fill (λ i. getD log i noEntry .kind) (l .kinds) n
 kinds-fill log l zero = refl
 kinds-fill log l (suc i) = ap (λ (xs : List ℕ). set xs i (getD log i noEntry .kind)) (kinds-fill log l i)
 
-offsets-fill : (log : List Entry) (l : Log) (n : ℕ) → withEntries log l n .offsets ≡ fill (λ i. getD log i noEntry .offset) (l .offsets) n
+pub offsets-fill : (log : List Entry) (l : Log) (n : ℕ) → withEntries log l n .offsets ≡ fill (λ i. getD log i noEntry .offset) (l .offsets) n
 offsets-fill log l zero = refl
 offsets-fill log l (suc i) = ap (λ (xs : List ℕ). set xs i (getD log i noEntry .offset)) (offsets-fill log l i)
 
-lens-fill : (log : List Entry) (l : Log) (n : ℕ) → withEntries log l n .lens ≡ fill (λ i. getD log i noEntry .len) (l .lens) n
+pub lens-fill : (log : List Entry) (l : Log) (n : ℕ) → withEntries log l n .lens ≡ fill (λ i. getD log i noEntry .len) (l .lens) n
 lens-fill log l zero = refl
 lens-fill log l (suc i) = ap (λ (xs : List ℕ). set xs i (getD log i noEntry .len)) (lens-fill log l i)
 
-digests-fill : (log : List Entry) (l : Log) (n : ℕ) → withEntries log l n .digests ≡ fill (λ i. getD log i noEntry .digest) (l .digests) n
+pub digests-fill : (log : List Entry) (l : Log) (n : ℕ) → withEntries log l n .digests ≡ fill (λ i. getD log i noEntry .digest) (l .digests) n
 digests-fill log l zero = refl
 digests-fill log l (suc i) = ap (λ (xs : List ℕ). set xs i (getD log i noEntry .digest)) (digests-fill log l i)
 
-changed-fill : (log : List Entry) (l : Log) (n : ℕ) → withEntries log l n .changed ≡ fill (λ i. getD log i noEntry .changed) (l .changed) n
+pub changed-fill : (log : List Entry) (l : Log) (n : ℕ) → withEntries log l n .changed ≡ fill (λ i. getD log i noEntry .changed) (l .changed) n
 changed-fill log l zero = refl
 changed-fill log l (suc i) = ap (λ (xs : List ℕ). set xs i (getD log i noEntry .changed)) (changed-fill log l i)
 
-answered-fill : (log : List Entry) (l : Log) (n : ℕ) → withEntries log l n .answered ≡ fill (λ i. getD log i noEntry .answered) (l .answered) n
+pub answered-fill : (log : List Entry) (l : Log) (n : ℕ) → withEntries log l n .answered ≡ fill (λ i. getD log i noEntry .answered) (l .answered) n
 answered-fill log l zero = refl
 answered-fill log l (suc i) = ap (λ (xs : List ℕ). set xs i (getD log i noEntry .answered)) (answered-fill log l i)
 

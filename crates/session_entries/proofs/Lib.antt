@@ -1,1 +1,5 @@
+pub mod Fill
 pub mod Correspond
+pub mod Refused
+pub mod Returned
+pub mod Carried

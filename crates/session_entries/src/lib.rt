@@ -1,12 +1,19 @@
 // The operation log as a lent slice of entries: document 01's "then the operation log is a lent slice of entries". A few thin
 // functions over the covered column form. The session keeps its log in six columns of numbers; here a caller reads and stores
-// entries of a slice. Each contract is an equation over the list of entries, and an index outside changes nothing.
+// entries of a slice, and hands a session's log on as entries and gets it back. Each contract is an equation over the list of
+// entries. What is refused answers document 01's number and changes nothing: 11 for an index outside the log, 12 for columns of
+// different lengths, 13 for too little room.
 use session::Entry;
 ghost use mathlib.Core.Path.{_≡_};
 ghost use lib.ListN.{length, set, getD};
-ghost use lib.Dec.{ltb};
 ghost use Rattle.session.specs.Log.{logOf};
-ghost use Rattle.session_entries.specs.Entries.{rowOf, withRows, withEntries};
+ghost use Rattle.session_entries.specs.Entries.{rowOf, placeTest, entryAt, movedTest, movedRows, entriesNumber, toEntries, columnsNumber, toColumns};
+
+// What reading an entry answers: the entry, or the number that refuses.
+pub enum EntryAnswer {
+    Found(Entry),
+    NotThere(u32),
+}
 
 // How many entries the log has room for.
 pub fn entry_count(log: &[Entry]) -> usize
@@ -15,25 +22,25 @@ pub fn entry_count(log: &[Entry]) -> usize
     log.len()
 }
 
-// The entry at an index. An index outside is refused: the answer is `other`, which the caller chose.
-pub fn read_entry(log: &[Entry], index: usize, other: Entry) -> Entry
-    ensures { λ r. ⌜ r ≡ getD (now (log .entry)) index other ⌝ }
+// The entry at an index, or 11 for an index outside.
+pub fn read_entry(log: &[Entry], index: usize) -> EntryAnswer
+    ensures { λ r. ⌜ r ≡ entryAt (now (log .entry)) index ⌝ }
 {
     if index < log.len() {
-        return log[index];
+        return EntryAnswer::Found(log[index]);
     }
-    other
+    EntryAnswer::NotThere(11)
 }
 
-// Stores an entry at an index, and answers whether it did. An index outside is refused and nothing is changed.
-pub fn store_entry(log: &mut [Entry], index: usize, entry: Entry) -> bool
-    ensures { λ r. ⌜ (r ≡ ltb index (length (now (log .entry)))) × (now (log .exit) ≡ set (now (log .entry)) index entry) ⌝ }
+// Stores an entry at an index, and answers 0, or 11 for an index outside: then nothing is changed.
+pub fn store_entry(log: &mut [Entry], index: usize, entry: Entry) -> u32
+    ensures { λ r. ⌜ (r ≡ placeTest index (length (now (log .entry)))) × (now (log .exit) ≡ set (now (log .entry)) index entry) ⌝ }
 {
     if index < log.len() {
         log[index] = entry;
-        return true;
+        return 0;
     }
-    false
+    11
 }
 
 // A cell of a column; 0 past its end.
@@ -88,7 +95,34 @@ pub fn row_of(
     }
 }
 
-// Hands a session's log on as entries: every entry becomes its row of the columns.
+// The number for handing `rows` rows to a place with room for `room`, over the columns' lengths: 12 where they are unequal, then
+// 13 where there is too little room.
+fn moved_number(
+    kinds: usize,
+    offsets: usize,
+    lens: usize,
+    digests: usize,
+    changed: usize,
+    answered: usize,
+    rows: usize,
+    room: usize,
+) -> u32
+    ensures { λ r. ⌜ r ≡ movedTest kinds offsets lens digests changed answered rows room ⌝ }
+{
+    if session::log_uneven(kinds, offsets, lens, digests, changed, answered) {
+        return 12;
+    }
+    if room < rows { 13 } else { 0 }
+}
+
+// How many rows go over: none where a number refuses.
+fn moved_rows(number: u32, rows: usize) -> usize
+    ensures { λ r. ⌜ r ≡ movedRows number rows ⌝ }
+{
+    if number == 0 { rows } else { 0 }
+}
+
+// Hands a session's log on as entries: each row of the columns becomes the entry at its index. Answers 0, 12 or 13.
 pub fn to_entries(
     log: &mut [Entry],
     kinds: &[u8],
@@ -97,19 +131,31 @@ pub fn to_entries(
     digests: &[u64],
     changed: &[u8],
     answered: &[u8],
-)
-    ensures { λ _. ⌜ now (log .exit) ≡ withRows (logOf (now (kinds .entry)) (now (offsets .entry)) (now (lens .entry)) (now (digests .entry)) (now (changed .entry)) (now (answered .entry))) (now (log .entry)) (length (now (log .entry))) ⌝ }
+) -> u32
+    ensures { λ r. ⌜ (r ≡ entriesNumber (logOf (now (kinds .entry)) (now (offsets .entry)) (now (lens .entry)) (now (digests .entry)) (now (changed .entry)) (now (answered .entry))) (now (log .entry))) × (now (log .exit) ≡ toEntries (logOf (now (kinds .entry)) (now (offsets .entry)) (now (lens .entry)) (now (digests .entry)) (now (changed .entry)) (now (answered .entry))) (now (log .entry))) ⌝ }
 {
-    let count = log.len();
+    let rows = kinds.len();
+    let number = moved_number(
+        rows,
+        offsets.len(),
+        lens.len(),
+        digests.len(),
+        changed.len(),
+        answered.len(),
+        rows,
+        log.len(),
+    );
+    let count = moved_rows(number, rows);
     let mut index = 0;
     while index < count {
         let entry = row_of(kinds, offsets, lens, digests, changed, answered, index);
         log[index] = entry;
         index += 1;
     }
+    number
 }
 
-// Gets it back: every entry is recorded in its row of the columns, as the session records an operation.
+// Gets it back: each entry is recorded in its row of the columns, as the session records an operation. Answers 0, 12 or 13.
 pub fn to_columns(
     log: &[Entry],
     kinds: &mut [u8],
@@ -118,10 +164,22 @@ pub fn to_columns(
     digests: &mut [u64],
     changed: &mut [u8],
     answered: &mut [u8],
-)
-    ensures { λ _. ⌜ logOf (now (kinds .exit)) (now (offsets .exit)) (now (lens .exit)) (now (digests .exit)) (now (changed .exit)) (now (answered .exit)) ≡ withEntries (now (log .entry)) (logOf (now (kinds .entry)) (now (offsets .entry)) (now (lens .entry)) (now (digests .entry)) (now (changed .entry)) (now (answered .entry))) (length (now (log .entry))) ⌝ }
+) -> u32
+    ensures { λ r. ⌜ (r ≡ columnsNumber (now (log .entry)) (logOf (now (kinds .entry)) (now (offsets .entry)) (now (lens .entry)) (now (digests .entry)) (now (changed .entry)) (now (answered .entry)))) × (logOf (now (kinds .exit)) (now (offsets .exit)) (now (lens .exit)) (now (digests .exit)) (now (changed .exit)) (now (answered .exit)) ≡ toColumns (now (log .entry)) (logOf (now (kinds .entry)) (now (offsets .entry)) (now (lens .entry)) (now (digests .entry)) (now (changed .entry)) (now (answered .entry)))) ⌝ }
 {
-    let count = log.len();
+    let rows = log.len();
+    let room = kinds.len();
+    let number = moved_number(
+        room,
+        offsets.len(),
+        lens.len(),
+        digests.len(),
+        changed.len(),
+        answered.len(),
+        rows,
+        room,
+    );
+    let count = moved_rows(number, rows);
     let mut index = 0;
     while index < count {
         session::record(
@@ -136,4 +194,5 @@ pub fn to_columns(
         );
         index += 1;
     }
+    number
 }

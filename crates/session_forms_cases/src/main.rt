@@ -1,7 +1,13 @@
-// The barrier on lent counters, through a caller that has them in a local, and the rows that it leaves as entries. The device is
-// 16/8/4/4, with a power loss armed on the second operation, before it runs. A line is a barrier: its answer, the count of
-// operations after it, and the first free or last written row: kind, offset, length, digest, changed, answered. The first barrier
-// answers 0 and acknowledges, the second is cut and answers 21, the third is refused with 21 and changes nothing: its row is empty.
+// The two forms by reference, through callers with plain parameters, each of which has what it lends in a local. The device is
+// 16/8/4/4, with a power loss armed on the second operation, before it runs.
+// Three lines of barriers on lent counters: the answer, the count of operations after it, and the first free or last written row:
+// kind, offset, length, digest, changed, answered. The first barrier answers 0 and acknowledges, the second is cut and answers 21,
+// the third is refused with 21 and changes nothing: its row is empty.
+// Then lines of a log of entries: 0 and an entry, or the number that refuses. In that log an erase of 8 bytes at 8 is recorded at an
+// index. Asked for: the first barrier; the erase; the empty row behind it; an index outside (11); with the erase outside (11); in
+// columns of which one is shorter (12), and there outside (11, the lower number); in columns longer than a session's (13).
+// Then lines of a log that starts with that erase, laid out in columns that were all 7: the answer and row 0. In a session's columns
+// (0, and row 1, which is empty), in columns of which one is longer (12) and in columns that are too short (13), both unchanged.
 use device::OneWayBits;
 use inject::Injection;
 use inject::Interruption;
@@ -13,6 +19,7 @@ use session::Called;
 use session::Counters;
 use session::Entry;
 use session::Told;
+use session_entries::EntryAnswer;
 use storage::Geometry;
 
 fn told() -> Told {
@@ -37,16 +44,20 @@ fn print_number(n: u64, after: &[u8; 1]) {
     io::write_all(STDOUT_FILENO, after);
 }
 
-fn show(called: Called, entry: Entry) {
-    let counters = called.counters;
-    print_number(called.answer as u64, b" ");
-    print_number(counters.operations as u64, b" ");
+fn show_entry(entry: Entry) {
     print_number(entry.kind as u64, b" ");
     print_number(entry.offset as u64, b" ");
     print_number(entry.len as u64, b" ");
     print_number(entry.digest, b" ");
     print_number(entry.changed as u64, b" ");
     print_number(entry.answered as u64, b"\n");
+}
+
+fn show(called: Called, entry: Entry) {
+    let counters = called.counters;
+    print_number(called.answer as u64, b" ");
+    print_number(counters.operations as u64, b" ");
+    show_entry(entry);
 }
 
 fn step(
@@ -74,23 +85,174 @@ fn step(
     called.counters
 }
 
-fn main() {
-    let mut kinds = [0u8; 1024];
-    let mut offsets = [0u32; 1024];
-    let mut lens = [0u32; 1024];
-    let mut digests = [0u64; 1024];
-    let mut changed = [0u8; 1024];
-    let mut answered = [0u8; 1024];
-    let fresh = Counters {
+fn fresh() -> Counters {
+    Counters {
         operations: 0,
         marks: 0,
         stop: Stop::Running,
         fired: false,
         place: 0,
         withheld: 0,
-    };
+    }
+}
+
+fn erased() -> Entry {
+    Entry {
+        kind: 1,
+        offset: 8,
+        len: 8,
+        digest: 0,
+        changed: 1,
+        answered: 1,
+    }
+}
+
+fn ask(
+    kinds: &[u8],
+    offsets: &[u32],
+    lens: &[u32],
+    digests: &[u64],
+    changed: &[u8],
+    answered: &[u8],
+    at: usize,
+    index: usize,
+) {
+    let answer = session_entries_local::entry_with(
+        kinds,
+        offsets,
+        lens,
+        digests,
+        changed,
+        answered,
+        at,
+        erased(),
+        index,
+    );
+    match answer {
+        EntryAnswer::Found(entry) => {
+            print_number(0, b" ");
+            show_entry(entry);
+        }
+        EntryAnswer::NotThere(number) => print_number(number as u64, b"\n"),
+    }
+}
+
+fn ask_all(
+    kinds: &[u8],
+    offsets: &[u32],
+    lens: &[u32],
+    digests: &[u64],
+    changed: &[u8],
+    answered: &[u8],
+) {
+    ask(kinds, offsets, lens, digests, changed, answered, 2, 0);
+    ask(kinds, offsets, lens, digests, changed, answered, 2, 2);
+    ask(kinds, offsets, lens, digests, changed, answered, 2, 3);
+    ask(kinds, offsets, lens, digests, changed, answered, 2, 1024);
+    ask(kinds, offsets, lens, digests, changed, answered, 1024, 0);
+    let short = [0u8; 1023];
+    ask(&short, offsets, lens, digests, changed, answered, 2, 0);
+    ask(&short, offsets, lens, digests, changed, answered, 2, 1023);
+}
+
+fn ask_long() {
+    let kinds = [0u8; 1025];
+    let offsets = [0u32; 1025];
+    let lens = [0u32; 1025];
+    let digests = [0u64; 1025];
+    let changed = [0u8; 1025];
+    let answered = [0u8; 1025];
+    ask(&kinds, &offsets, &lens, &digests, &changed, &answered, 2, 0);
+}
+
+fn start(
+    kinds: &mut [u8],
+    offsets: &mut [u32],
+    lens: &mut [u32],
+    digests: &mut [u64],
+    changed: &mut [u8],
+    answered: &mut [u8],
+) {
+    let answer = session_entries_local::start_with(
+        erased(),
+        kinds,
+        offsets,
+        lens,
+        digests,
+        changed,
+        answered,
+    );
+    let entry = session_entries::row_of(kinds, offsets, lens, digests, changed, answered, 0);
+    print_number(answer as u64, b" ");
+    show_entry(entry);
+}
+
+fn show_row(
+    kinds: &[u8],
+    offsets: &[u32],
+    lens: &[u32],
+    digests: &[u64],
+    changed: &[u8],
+    answered: &[u8],
+    index: usize,
+) {
+    let entry = session_entries::row_of(kinds, offsets, lens, digests, changed, answered, index);
+    show_entry(entry);
+}
+
+fn start_all() {
+    let mut kinds = [7u8; 1024];
+    let mut offsets = [7u32; 1024];
+    let mut lens = [7u32; 1024];
+    let mut digests = [7u64; 1024];
+    let mut changed = [7u8; 1024];
+    let mut answered = [7u8; 1024];
+    start(
+        &mut kinds,
+        &mut offsets,
+        &mut lens,
+        &mut digests,
+        &mut changed,
+        &mut answered,
+    );
+    show_row(&kinds, &offsets, &lens, &digests, &changed, &answered, 1);
+}
+
+fn start_short() {
+    let mut longer = [7u8; 1024];
+    let mut kinds = [7u8; 1023];
+    let mut offsets = [7u32; 1023];
+    let mut lens = [7u32; 1023];
+    let mut digests = [7u64; 1023];
+    let mut changed = [7u8; 1023];
+    let mut answered = [7u8; 1023];
+    start(
+        &mut longer,
+        &mut offsets,
+        &mut lens,
+        &mut digests,
+        &mut changed,
+        &mut answered,
+    );
+    start(
+        &mut kinds,
+        &mut offsets,
+        &mut lens,
+        &mut digests,
+        &mut changed,
+        &mut answered,
+    );
+}
+
+fn run_session() {
+    let mut kinds = [0u8; 1024];
+    let mut offsets = [0u32; 1024];
+    let mut lens = [0u32; 1024];
+    let mut digests = [0u64; 1024];
+    let mut changed = [0u8; 1024];
+    let mut answered = [0u8; 1024];
     let first = step(
-        fresh,
+        fresh(),
         &mut kinds,
         &mut offsets,
         &mut lens,
@@ -119,4 +281,12 @@ fn main() {
         &mut answered,
         2,
     );
+    ask_all(&kinds, &offsets, &lens, &digests, &changed, &answered);
+}
+
+fn main() {
+    run_session();
+    ask_long();
+    start_all();
+    start_short();
 }

@@ -15,8 +15,7 @@ use Rattle.basics.specs.Parts.{overlaid}
 use Rattle.basics.proofs.Parts.{part-back}
 use Rattle.text.specs.declared.Printed.the-variants.{Next, NoRoom}
 use Rattle.text.specs.Numbers.{largest, isDigit, allDigits, valueFrom, valueOf, zeroLed, isNumber, Decimal, number, none, numberOf, decimalIn, decimalOf}
-use Rattle.text.specs.Printing.{Print, printedAt}
-use Rattle.text.specs.Inner.{Places}
+use Rattle.text.specs.Printing.{Places, Print, printedAt}
 
 -- ---- how many digits
 

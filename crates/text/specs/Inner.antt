@@ -8,7 +8,7 @@ use lib.ListN.{length, drop}
 use lib.Dec.{eqb, leb}
 use Rattle.text.specs.declared.Number.{Number}
 use Rattle.text.specs.declared.Number.the-variants.{Value, NoNumber}
-use Rattle.text.specs.Numbers.{largest, isDigit, decimalOf}
+use Rattle.text.specs.Numbers.{largest, isDigit}
 use Rattle.text.specs.Pairs.{isHex, hexOf}
 
 -- the digits from a place on up to the byte `end`, which follow digits of value n
@@ -41,8 +41,3 @@ pub record Stopped (s : List ℕ) (from r : ℕ) : Type 0 where
 pub record Nibble (c r : ℕ) : Type 0 where
   pub is : r ≡ hexOf c
   pub small : r < 16
-
--- how many digits a number has, and that they are few
-pub record Places (n r : ℕ) : Type 0 where
-  pub is : r ≡ length (decimalOf n)
-  pub few : r ≤ 20

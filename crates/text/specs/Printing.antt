@@ -1,13 +1,19 @@
--- A number written as text into a lent buffer.
+-- How long a number is as text, and the text written into a lent buffer.
 -- Definitions only; assumes nothing.
+use mathlib.Core.Path.{_≡_}
 use mathlib.Core.Bool.{cond}
 use mathlib.Core.List.{List}
-use Prim.Native.Nat.{ℕ, _+_}
+use Prim.Native.Nat.{ℕ, _+_, _≤_}
 use lib.ListN.{length}
 use Rattle.basics.specs.Parts.{within, overlaid}
 use Rattle.text.specs.declared.Printed.{Printed}
 use Rattle.text.specs.declared.Printed.the-variants.{Next, NoRoom}
 use Rattle.text.specs.Numbers.{decimalOf}
+
+-- how many digits a number has; they are few, so that a caller can add them up
+pub record Places (n r : ℕ) : Type 0 where
+  pub is : r ≡ length (decimalOf n)
+  pub few : r ≤ 20
 
 -- what is answered, and the buffer then
 pub record Print : Type 0 where

@@ -9,8 +9,8 @@ ghost use lib.ListN.{length, drop};
 ghost use Rattle.text.specs.Fields.{fieldTo, letterAt};
 ghost use Rattle.text.specs.Numbers.{numberAt, decimalOf};
 ghost use Rattle.text.specs.Pairs.{isHex, allHex, pairsAt, decoded};
-ghost use Rattle.text.specs.Printing.{Print, printedAt};
-ghost use Rattle.text.specs.Inner.{digitsAt, Skipped, Stopped, Nibble, Places};
+ghost use Rattle.text.specs.Printing.{Places, Print, printedAt};
+ghost use Rattle.text.specs.Inner.{digitsAt, Skipped, Stopped, Nibble};
 
 // The bytes that part a text.
 pub const TAB: u8 = 9;
@@ -240,8 +240,8 @@ pub fn decode(text: &[u8], from: usize, out: &mut [u8])
     }
 }
 
-// How many digits a number has.
-fn places(n: u64) -> usize
+// How many digits a number has in decimal: how much room `print_number` needs for it.
+pub fn places(n: u64) -> usize
     ensures { λ r. ⌜ Places n r ⌝ }
 {
     let mut count = 1;

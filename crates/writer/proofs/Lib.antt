@@ -1,5 +1,4 @@
 -- Laws of a script's run.
 pub mod One
 pub mod Turns
-pub mod Scanned
 pub mod Whole

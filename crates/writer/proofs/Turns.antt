@@ -4,50 +4,17 @@
 -- Assumes nothing.
 use mathlib.Core.Path.{_≡_, refl, sym, ap, _∙_}
 use mathlib.Core.Bool.{Bool, true, false, cond, not, _&&_, _||_}
-use mathlib.Core.List.{List, [], _∷_}
-use Prim.Native.Nat.{ℕ, zero, suc, _+_, _-_, _≤_, _<_}
+use mathlib.Core.List.{[]}
+use Prim.Native.Nat.{ℕ, _+_, _-_, _≤_, _<_}
 use native.Mathlib.Omega.{arith}
-use lib.ListN.{length, getD, take, drop}
-use lib.Seq.{getD-take, length-take-le}
-use lib.Dec.{eqb, ltb}
-use Rattle.basics.proofs.Scans.{at-step}
-use Rattle.device.proofs.Pairs.{false-left, false-right}
+use lib.Dec.{eqb}
 use Rattle.session.specs.declared.Told.{Told}
-use Rattle.script.specs.Calls.{Call}
 use Rattle.script.specs.Columns.{Columns}
-use Rattle.script.specs.Held.{callFrom, rowsIn, callsIn}
+use Rattle.script.specs.Held.{rowsIn, callsIn}
 use Rattle.threaded.specs.Threaded.{Session, Answered}
 use Rattle.writer.specs.Writer.{lineAnswered, Wrote, wrote}
-use Rattle.writer.specs.Run.{anyOutside}
-use Rattle.writer.specs.Scans.{Ready}
-
--- the calls of the rows from one on
-abbrev pub rowsAt : (rows : ℕ) → Columns → ℕ → List Call
-rowsAt rows k i = rowsIn (rows - i) (drop i (k .kinds)) (drop i (k .firsts)) (drop i (k .seconds)) (drop i (k .thirds)) (drop i (k .starts)) (k .pool)
-
-abbrev pub rowAt : Columns → ℕ → Call
-rowAt k i = callFrom (getD (k .kinds) i 0) (getD (k .firsts) i 0) (getD (k .seconds) i 0) (getD (k .thirds) i 0) (getD (k .starts) i 0) (k .pool)
-
-module _ (rows : ℕ) (k : Columns) (ready : Ready rows k) (i : ℕ) (h : i < rows) where
-  less : i < length (k .kinds)
-  less = let r = ready .room in omega arith
-
-  next-row : rowsAt rows k i ≡ rowAt k i ∷ rowsAt rows k (i + 1)
-  unfolding rowsIn
-  next-row =
-      let n : ℕ = rows - (i + 1) in
-      let e : rows - i ≡ suc n = omega arith in
-      let pool : List ℕ = k .pool in
-      let K : List ℕ = getD (k .kinds) i 0 ∷ drop (i + 1) (k .kinds) in
-      let A : List ℕ = getD (k .firsts) i 0 ∷ drop (i + 1) (k .firsts) in
-      let B : List ℕ = getD (k .seconds) i 0 ∷ drop (i + 1) (k .seconds) in
-      let C : List ℕ = getD (k .thirds) i 0 ∷ drop (i + 1) (k .thirds) in
-      ap (λ (m : ℕ). rowsIn m (drop i (k .kinds)) (drop i (k .firsts)) (drop i (k .seconds)) (drop i (k .thirds)) (drop i (k .starts)) pool) e
-      ∙ at-step (λ (x : List ℕ). rowsIn (suc n) x (drop i (k .firsts)) (drop i (k .seconds)) (drop i (k .thirds)) (drop i (k .starts)) pool) (k .kinds) i 0 less
-      ∙ at-step (λ (x : List ℕ). rowsIn (suc n) K x (drop i (k .seconds)) (drop i (k .thirds)) (drop i (k .starts)) pool) (k .firsts) i 0 (rw (ready .firsts-even) less)
-      ∙ at-step (λ (x : List ℕ). rowsIn (suc n) K A x (drop i (k .thirds)) (drop i (k .starts)) pool) (k .seconds) i 0 (rw (ready .seconds-even) less)
-      ∙ at-step (λ (x : List ℕ). rowsIn (suc n) K A B x (drop i (k .starts)) pool) (k .thirds) i 0 (rw (ready .thirds-even) less)
-      ∙ at-step (λ (x : List ℕ). rowsIn (suc n) K A B C x pool) (k .starts) i 0 (rw (ready .starts-even) less)
+use Rattle.script_rows.specs.Ready.{Ready}
+use Rattle.script_rows.proofs.Rows.{rowsAt, rowAt, next-row, rows-end}
 
 -- ---- the rows that are left
 
@@ -86,28 +53,5 @@ module _ (t : Told) (on : Bool) (rows : ℕ) (k : Columns) (all : Wrote) (i : �
 
 pub left-end : (t : Told) (on : Bool) (rows : ℕ) (k : Columns) (all : Wrote) (i : ℕ) (s : Session) → rows ≤ i → Left t on rows k all i s
     → _≡_ {A = Wrote} (record { session = s; failed = false }) all
-unfolding wrote rowsIn
-left-end t on rows k all i s h l =
-    let e : rows - i ≡ 0 = omega arith in
-    sym (ap (λ (n : ℕ). wrote t on s (rowsIn n (drop i (k .kinds)) (drop i (k .firsts)) (drop i (k .seconds)) (drop i (k .thirds)) (drop i (k .starts)) (k .pool))) e) ∙ l .leaves
-
--- no row of columns that are inside the pool is outside it
-inside-of : (pool : ℕ) (ks ls ss : List ℕ) (i : ℕ) → length ls ≡ length ks → length ss ≡ length ks → i < length ks → anyOutside pool ks ls ss ≡ false
-    → (eqb (getD ks i 0) 80 && ltb pool (getD ss i 0 + getD ls i 0)) ≡ false
-unfolding anyOutside
-inside-of pool [] ls ss i p q h e = absurd (omega arith)
-inside-of pool (k ∷ ks) [] ss i p q h e = absurd (omega arith)
-inside-of pool (k ∷ ks) (l ∷ ls) [] i p q h e = absurd (omega arith)
-inside-of pool (k ∷ ks) (l ∷ ls) (s ∷ ss) zero p q h e = false-left (eqb k 80 && ltb pool (s + l)) (anyOutside pool ks ls ss) e
-inside-of pool (k ∷ ks) (l ∷ ls) (s ∷ ss) (suc i) p q h e =
-    inside-of pool ks ls ss i (omega arith) (omega arith) (omega arith) (false-right (eqb k 80 && ltb pool (s + l)) (anyOutside pool ks ls ss) e)
-
-pub inside-at : (rows : ℕ) (k : Columns) (i : ℕ) → Ready rows k → i < rows
-    → (eqb (getD (k .kinds) i 0) 80 && ltb (length (k .pool)) (getD (k .starts) i 0 + getD (k .seconds) i 0)) ≡ false
-inside-at rows k i r h =
-    let room = r .room in
-    let lk : length (take rows (k .kinds)) ≡ rows = length-take-le rows (k .kinds) room in
-    let ls : length (take rows (k .seconds)) ≡ rows = length-take-le rows (k .seconds) (rw (r .seconds-even) room) in
-    let lt : length (take rows (k .starts)) ≡ rows = length-take-le rows (k .starts) (rw (r .starts-even) room) in
-    rw (getD-take rows (k .kinds) i 0 h, getD-take rows (k .seconds) i 0 h, getD-take rows (k .starts) i 0 h) at
-    (inside-of (length (k .pool)) (take rows (k .kinds)) (take rows (k .seconds)) (take rows (k .starts)) i (ls ∙ sym lk) (lt ∙ sym lk) (rw lk h) (r .inside))
+unfolding wrote
+left-end t on rows k all i s h l = sym (ap (wrote t on s) (rows-end rows k i h)) ∙ l .leaves

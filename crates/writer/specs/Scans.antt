@@ -1,17 +1,12 @@
 -- What the private functions of `src/` answer. No public contract cites these. Definitions only; assumes nothing.
-use mathlib.Core.Path.{_≡_}
-use mathlib.Core.Bool.{false}
 use mathlib.Core.List.{List}
-use Prim.Native.Nat.{ℕ, _≤_}
-use lib.ListN.{length, take}
+use Prim.Native.Nat.{ℕ}
 use Rattle.session.specs.declared.Counters.{Counters}
 use Rattle.session.specs.declared.Called.{Called}
 use Rattle.session.specs.Log.{Log, Marks}
 use Rattle.threaded.specs.Threaded.{Session, Answered}
-use Rattle.script.specs.Columns.{Columns}
 use Rattle.writer.specs.declared.Written.{Written}
 use Rattle.writer.specs.Writer.{Wrote}
-use Rattle.writer.specs.Run.{anyOutside}
 
 -- a session, a call's answer and a writer's end, by their parts
 abbrev pub sessionOf : Counters → (media copy : List ℕ) → Log → Marks → Session
@@ -22,12 +17,3 @@ answeredOf r d k l m = record { answer = r .answer; session = sessionOf (r .coun
 
 abbrev pub wroteOf : Written → (media copy : List ℕ) → Log → Marks → Wrote
 wroteOf w d k l m = record { session = sessionOf (w .counters) d k l m; failed = w .failed }
-
--- what the loop over the rows asks
-pub record Ready (rows : ℕ) (k : Columns) : Type 0 where
-  pub firsts-even : length (k .firsts) ≡ length (k .kinds)
-  pub seconds-even : length (k .seconds) ≡ length (k .kinds)
-  pub thirds-even : length (k .thirds) ≡ length (k .kinds)
-  pub starts-even : length (k .starts) ≡ length (k .kinds)
-  pub room : rows ≤ length (k .kinds)
-  pub inside : anyOutside (length (k .pool)) (take rows (k .kinds)) (take rows (k .seconds)) (take rows (k .starts)) ≡ false

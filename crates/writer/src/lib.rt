@@ -7,18 +7,18 @@ use session::MARKS;
 use session::OPERATIONS;
 use session::Started;
 use session::Told;
-use storage::Geometry;
 ghost use mathlib.Core.Path.{_≡_};
 ghost use mathlib.Core.Bool.{false, _&&_};
-ghost use Prim.Native.Nat.{_+_, _≤_, min};
+ghost use Prim.Native.Nat.{_+_};
 ghost use lib.ListN.{length};
 ghost use lib.Dec.{eqb, ltb};
 ghost use Rattle.session.specs.Log.{logOf, marksOf};
 ghost use Rattle.script.specs.Columns.{columns};
 ghost use Rattle.script.specs.Held.{callFrom, callsIn};
 ghost use Rattle.writer.specs.Writer.{lineAnswered, wrote};
-ghost use Rattle.writer.specs.Run.{isLetter, allLetters, anyOutside, rowsUneven, runLengths, runContents, runLeft, runCall};
-ghost use Rattle.writer.specs.Scans.{sessionOf, answeredOf, wroteOf, Ready};
+ghost use Rattle.script_rows.specs.Ready.{Ready};
+ghost use Rattle.writer.specs.Run.{runLeft, runCall};
+ghost use Rattle.writer.specs.Scans.{sessionOf, answeredOf, wroteOf};
 
 // The counters that the writer's last call left, and whether it returned an error; or the number that refuses.
 pub enum Ran {
@@ -30,107 +30,6 @@ pub enum Ran {
 struct Written {
     counters: Counters,
     failed: bool,
-}
-
-// ---- tests
-
-// Whether the rows' columns are unequal.
-fn rows_uneven(kinds: usize, firsts: usize, seconds: usize, thirds: usize, starts: usize) -> bool
-    ensures { λ r. ⌜ r ≡ rowsUneven kinds firsts seconds thirds starts ⌝ }
-{
-    (firsts != kinds) | (seconds != kinds) | (thirds != kinds) | (starts != kinds)
-}
-
-// Whether a row is a program whose bytes are not all in a pool of this length.
-fn is_outside(kind: u8, start: u32, len: u32, pool: usize) -> bool
-    ensures { λ r. ⌜ r ≡ (eqb kind 80 && ltb pool (start + len)) ⌝ }
-{
-    (kind == 80) & (pool < start as usize + len as usize)
-}
-
-// Whether a code is the letter of a call.
-fn is_letter(kind: u8) -> bool
-    ensures { λ r. ⌜ r ≡ isLetter kind ⌝ }
-{
-    (kind == 66) | (kind == 78) | (kind == 77) | (kind == 80) | (kind == 69) | (kind == 83)
-}
-
-// Whether every row has the letter of a call.
-fn all_letters(kinds: &[u8]) -> bool
-    ensures { λ r. ⌜ r ≡ allLetters (now (kinds .entry)) ⌝ }
-{
-    let mut i = 0;
-    while i < kinds.len() {
-        if !is_letter(kinds[i]) {
-            return false;
-        }
-        i += 1;
-    }
-    true
-}
-
-// Whether some program's bytes are not all in a pool of this length.
-fn any_outside(kinds: &[u8], seconds: &[u32], starts: &[u32], pool: usize) -> bool
-    requires { ⌜ (length (now seconds) ≡ length (now kinds)) × (length (now starts) ≡ length (now kinds)) ⌝ }
-    ensures { λ r. ⌜ r ≡ anyOutside pool (now (kinds .entry)) (now (seconds .entry)) (now (starts .entry)) ⌝ }
-{
-    let mut i = 0;
-    while i < kinds.len() {
-        if is_outside(kinds[i], starts[i], seconds[i], pool) {
-            return true;
-        }
-        i += 1;
-    }
-    false
-}
-
-// The number of the lengths: 1 to 3, 7, then 12 where columns of one list are unequal.
-fn run_lengths(geometry: Geometry, media: usize, copy: usize, uneven: bool) -> u32
-    ensures { λ r. ⌜ r ≡ runLengths geometry media copy uneven ⌝ }
-{
-    let checked = geometry.check();
-    let units = checked.refusal();
-    if units != 0 {
-        return units;
-    }
-    let sizes = session::size_refusal(geometry, media, copy);
-    if sizes != 0 {
-        return sizes;
-    }
-    if uneven { 12 } else { 0 }
-}
-
-// The lower of two numbers.
-fn lower(a: usize, b: usize) -> usize
-    ensures { λ r. ⌜ (r ≡ min a b) × (r ≤ a) × (r ≤ b) ⌝ }
-{
-    if a < b { a } else { b }
-}
-
-// The number of what the rows counted hold, in columns of one length. `short` tells whether a session's columns are too short.
-fn run_contents(
-    rows: usize,
-    kinds: &[u8],
-    firsts: &[u32],
-    seconds: &[u32],
-    thirds: &[u32],
-    starts: &[u32],
-    pool: &[u8],
-    short: bool,
-) -> u32
-    requires { ⌜ (length (now seconds) ≡ length (now kinds)) × (length (now starts) ≡ length (now kinds)) ⌝ }
-    ensures { λ r. ⌜ r ≡ runContents rows (columns (now (kinds .entry)) (now (firsts .entry)) (now (seconds .entry)) (now (thirds .entry)) (now (starts .entry)) (now (pool .entry))) short ⌝ }
-{
-    let n = lower(rows, kinds.len());
-    if !all_letters(&kinds[..n]) {
-        return 12;
-    }
-    let outside = any_outside(&kinds[..n], &seconds[..n], &starts[..n], pool.len());
-    if short | (kinds.len() < rows) | outside {
-        13
-    } else {
-        0
-    }
 }
 
 // One line of the script.
@@ -314,22 +213,24 @@ pub fn run_script(
         answered.len(),
     );
     let noted = session_marks::marks_uneven(marks.len(), named.len(), places.len());
-    let listed = rows_uneven(
-        kinds.len(),
-        firsts.len(),
-        seconds.len(),
-        thirds.len(),
-        starts.len(),
-    );
-    let geometry = told.geometry;
-    let lengths = run_lengths(geometry, media.len(), copy.len(), log | noted | listed);
-    if lengths != 0 {
-        return Ran::NotRun(lengths);
-    }
     let short = (ops.len() < OPERATIONS) | (marks.len() < MARKS);
-    let contents = run_contents(rows, kinds, firsts, seconds, thirds, starts, pool, short);
-    if contents != 0 {
-        return Ran::NotRun(contents);
+    let geometry = told.geometry;
+    let refused = script_rows::rows_refusal(
+        geometry,
+        media.len(),
+        copy.len(),
+        log | noted,
+        short,
+        rows,
+        kinds,
+        firsts,
+        seconds,
+        thirds,
+        starts,
+        pool,
+    );
+    if refused != 0 {
+        return Ran::NotRun(refused);
     }
     let started = session_calls::start(
         told,
@@ -348,6 +249,9 @@ pub fn run_script(
     let Started::Fresh(fresh) = started else {
         return Ran::NotRun(13);
     };
+    device::fill_erased(copy);
+    cleared::clear_log(ops, spans, sizes, digests, changed, answered);
+    cleared::clear_marks(marks, named, places);
     let written = write_rows(
         told,
         carries,

@@ -157,7 +157,7 @@ pub fn bench_row(what: &str, items: usize, rust: impl Fn() -> u64, ours: impl Fn
     println!("{what:<44} {rust:>10.2} {ours:>10.2} {:>8.2}", ours / rust);
 }
 
-fn median(mut times: Vec<f64>) -> f64 {
+pub fn median(mut times: Vec<f64>) -> f64 {
     times.sort_by(f64::total_cmp);
     times[times.len() / 2]
 }

@@ -187,6 +187,11 @@ fn one(number: u64, value: u64) -> Cells {
     [number, 1, value, 0, 0, 0, 0]
 }
 
+/// The number of a verdict.
+pub fn number_of(answer: Result<(), Breach>) -> u64 {
+    cells_of(answer)[0]
+}
+
 fn cells_of(answer: Result<(), Breach>) -> Cells {
     let Err(breach) = answer else { return [0; 7] };
     match breach {

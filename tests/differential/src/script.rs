@@ -323,9 +323,9 @@ fn rooms(comparison: &mut Comparison) -> Result<(), Difference> {
     Ok(())
 }
 
-/// A script of one line again and again, as long as can be; the rest is `B` lines whose ids have as many digits as it takes.
-fn padded(line: &str, size: usize) -> Vec<u8> {
-    let mut text = HEAD.as_bytes().to_vec();
+/// A script, then one line again and again, as long as can be; the rest is `B` lines whose ids have as many digits as it takes.
+pub fn padded(start: &str, line: &str, size: usize) -> Vec<u8> {
+    let mut text = start.as_bytes().to_vec();
     while text.len() + line.len() + 4 < size {
         text.extend_from_slice(line.as_bytes());
     }
@@ -355,7 +355,7 @@ fn at_limits(comparison: &mut Comparison) -> Result<(), Difference> {
         &long(MOST_BYTES),
     ] {
         for size in MOST_TEXT - 1..=MOST_TEXT + 1 {
-            let whole = Case::new(padded(line, size));
+            let whole = Case::new(padded(HEAD, line, size));
             assert_eq!(whole.text.len(), size);
             let mut unended = whole.clone();
             unended.text[size - 1] = b'1';
@@ -432,7 +432,7 @@ fn random_line(random: &mut Random) -> String {
 }
 
 /// A byte left out, put in, changed or doubled, a line moved, or the text cut. What it makes may still be a script.
-fn change(random: &mut Random, text: &mut Vec<u8>) {
+pub fn change(random: &mut Random, text: &mut Vec<u8>) {
     let byte = match random.below(4) {
         0 => random.u32() as u8,
         _ => random.pick(b"\t\t\t\n\n\n\r 0123456789afgAFBNMPESGarsc\x0b\0"),

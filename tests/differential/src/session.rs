@@ -167,7 +167,7 @@ impl common::Answer for Answer {
 /// What stands in a buffer before it is read into.
 const UNREAD: u8 = 0xA5;
 
-fn number_of(error: FaultError) -> u32 {
+pub fn number_of(error: FaultError) -> u32 {
     match error {
         FaultError::Geometry(error) => unit_number(error),
         FaultError::BitSetWithoutErase => 20,

@@ -9,7 +9,8 @@ use Rattle.script.specs.Columns.{columns}
 use Rattle.script.specs.Held.{callsIn}
 use Rattle.writer.specs.Writer.{wrote}
 use Rattle.writer.specs.Scans.{sessionOf}
-use Rattle.writer.proofs.Turns.{Left, left-first, left-turn, left-stop, left-end, inside-at}
+use Rattle.writer.proofs.Turns.{Left, left-first, left-turn, left-stop, left-end}
+use Rattle.script_rows.proofs.Rows.{inside-at}
 use Rattle.writer.proofs.write_rows.Statement.{statement}
 use Rattle.writer.proofs.write_rows.Tie as tie
 

@@ -1,0 +1,2 @@
+-- Lent columns cleared. Definitions only; assumes nothing.
+pub mod Cleared

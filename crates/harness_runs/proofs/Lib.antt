@@ -1,0 +1,2 @@
+-- Laws of a run of a sweep.
+pub mod Parts

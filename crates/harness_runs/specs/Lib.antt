@@ -1,0 +1,2 @@
+-- A run of a sweep. Definitions only; assumes nothing.
+pub mod Running

@@ -1,0 +1,11 @@
+-- `lines::is_kept` meets its contract. Assumes nothing.
+use borrow.Author.Needs.{needs}
+use Rattle.lines.proofs.Entries.{entries}
+use Rattle.lines.proofs.is_kept.Statement.{statement}
+use Rattle.lines.proofs.is_kept.Tie as tie
+
+returns : tie.Need-returns
+returns c = search (needs, entries)
+
+pub is-kept-spec : {M : Type 1} → statement M
+is-kept-spec = tie.close (tie.spec returns)

@@ -1,0 +1,108 @@
+-- `printing::run_part` meets its contract: every part lent is there. Assumes nothing.
+use mathlib.Core.Path.{sym}
+use native.Mathlib.Omega.{arith}
+use lib.Seq.{length-take-le}
+use borrow.Author.Needs.{needs}
+use Rattle.printing.proofs.run_part.Statement.{statement}
+use Rattle.printing.proofs.run_part.Tie as tie
+
+cast-lower : tie.Need-cast-lower
+cast-lower c = search needs
+
+lower-requires : tie.Need-lower-requires
+lower-requires c κs = search needs
+
+lower-requires-2 : tie.Need-lower-requires-2
+lower-requires-2 c κs = search needs
+
+slice-relend-prefix-run-at : tie.Need-slice-relend-prefix-run-at
+slice-relend-prefix-run-at c = search needs
+
+slice-aggregate-run-at : tie.Need-slice-aggregate-run-at
+slice-aggregate-run-at c =
+    sym (length-take-le _ _ (omega (arith, c .before .lower2 .ensures .0, c .before .lower2 .ensures .1, c .before .before .lower .ensures .0, c .before .before .lower .ensures .1)))
+
+slice-relend-prefix-run-at-2 : tie.Need-slice-relend-prefix-run-at-2
+slice-relend-prefix-run-at-2 c = search needs
+
+slice-aggregate-run-at-2 : tie.Need-slice-aggregate-run-at-2
+slice-aggregate-run-at-2 c =
+    sym (length-take-le _ _ (omega (arith, c .before .before .lower2 .ensures .0, c .before .before .lower2 .ensures .1, c .before .before .before .lower .ensures .0, c .before .before .before .lower .ensures .1)))
+
+run-at-requires : tie.Need-run-at-requires
+run-at-requires c κs = search needs
+
+same-length : tie.Need-same-length
+same-length c =
+    omega (arith, c .before .before .before .before .before .before .before .before .before .before .before .before .before .before .before .before .before .before .before .before .before .before .before .before .before .before .before .media .given, c .before .before .before .before .before .before .before .before .before .before .before .before .before .before .before .before .before .before .before .before .before .before .before .before .before .before .before .before .before .before .before .before .before .before .before .before .before .before .before .before .before .before .before .lower2 .ensures .0, c .before .before .before .before .before .before .before .before .before .before .before .before .before .before .before .before .before .before .before .before .before .before .before .before .before .before .before .before .before .before .before .before .before .before .before .before .before .before .before .before .before .before .before .lower2 .ensures .1, c .before .before .before .before .before .before .before .before .before .before .before .before .before .before .before .before .before .before .before .before .before .before .before .before .before .before .before .before .before .before .before .before .before .before .before .before .before .before .before .before .before .before .before .before .lower .ensures .0, c .before .before .before .before .before .before .before .before .before .before .before .before .before .before .before .before .before .before .before .before .before .before .before .before .before .before .before .before .before .before .before .before .before .before .before .before .before .before .before .before .before .before .before .before .lower .ensures .1)
+
+same-length-2 : tie.Need-same-length-2
+same-length-2 c =
+    omega (arith, c .before .before .before .before .before .before .before .before .before .before .before .before .before .before .before .before .before .before .before .before .before .before .before .before .before .copy .given, c .before .before .before .before .before .before .before .before .before .before .before .before .before .before .before .before .before .before .before .before .before .before .before .before .before .before .before .before .before .before .before .before .before .before .before .before .before .before .before .before .before .before .before .lower2 .ensures .0, c .before .before .before .before .before .before .before .before .before .before .before .before .before .before .before .before .before .before .before .before .before .before .before .before .before .before .before .before .before .before .before .before .before .before .before .before .before .before .before .before .before .before .before .lower2 .ensures .1, c .before .before .before .before .before .before .before .before .before .before .before .before .before .before .before .before .before .before .before .before .before .before .before .before .before .before .before .before .before .before .before .before .before .before .before .before .before .before .before .before .before .before .before .before .lower .ensures .0, c .before .before .before .before .before .before .before .before .before .before .before .before .before .before .before .before .before .before .before .before .before .before .before .before .before .before .before .before .before .before .before .before .before .before .before .before .before .before .before .before .before .before .before .before .lower .ensures .1)
+
+same-length-3 : tie.Need-same-length-3
+same-length-3 c = c .before .before .before .before .before .before .before .before .before .before .before .before .before .before .before .before .before .before .before .before .before .before .before .ops .given
+
+same-length-4 : tie.Need-same-length-4
+same-length-4 c = c .before .before .before .before .before .before .before .before .before .before .before .before .before .before .before .before .before .before .before .before .before .spans .given
+
+same-length-5 : tie.Need-same-length-5
+same-length-5 c = c .before .before .before .before .before .before .before .before .before .before .before .before .before .before .before .before .before .before .before .sizes .given
+
+same-length-6 : tie.Need-same-length-6
+same-length-6 c = c .before .before .before .before .before .before .before .before .before .before .before .before .before .before .before .before .before .digests .given
+
+same-length-7 : tie.Need-same-length-7
+same-length-7 c = c .before .before .before .before .before .before .before .before .before .before .before .before .before .before .before .changed .given
+
+same-length-8 : tie.Need-same-length-8
+same-length-8 c = c .before .before .before .before .before .before .before .before .before .before .before .before .before .answered .given
+
+same-length-9 : tie.Need-same-length-9
+same-length-9 c = c .before .before .before .before .before .before .before .before .before .before .before .marks .given
+
+same-length-10 : tie.Need-same-length-10
+same-length-10 c = c .before .before .before .before .before .before .before .before .before .named .given
+
+same-length-11 : tie.Need-same-length-11
+same-length-11 c = c .before .before .before .before .before .before .before .places .given
+
+same-length-12 : tie.Need-same-length-12
+same-length-12 c = c .before .before .before .before .before .ids .given
+
+same-length-13 : tie.Need-same-length-13
+same-length-13 c = c .before .before .before .states .given
+
+same-length-14 : tie.Need-same-length-14
+same-length-14 c = c .before .torn .given
+
+returns : tie.Need-returns
+returns c = search needs
+
+pub run-part-spec : {M : Type 1} → statement M
+run-part-spec =
+    tie.close
+    (tie.spec
+    cast-lower
+    lower-requires
+    lower-requires-2
+    slice-relend-prefix-run-at
+    slice-aggregate-run-at
+    slice-relend-prefix-run-at-2
+    slice-aggregate-run-at-2
+    run-at-requires
+    same-length
+    same-length-2
+    same-length-3
+    same-length-4
+    same-length-5
+    same-length-6
+    same-length-7
+    same-length-8
+    same-length-9
+    same-length-10
+    same-length-11
+    same-length-12
+    same-length-13
+    same-length-14
+    returns)

@@ -1,0 +1,43 @@
+-- `script_rows::rows_refusal` meets its contract: refused by a length, or what the rows hold tells. Assumes nothing.
+use mathlib.Core.Bool.{Bool}
+use Prim.Native.Nat.{ℕ}
+use Rattle.storage.specs.declared.Geometry.{Geometry}
+use Rattle.script.specs.Columns.{Columns, columns}
+use Rattle.script_rows.proofs.Numbers.{lengths-refuse, lengths-pass, contents-tell}
+use borrow.Author.Needs.{needs}
+use Rattle.script_rows.proofs.rows_refusal.Statement.{statement}
+use Rattle.script_rows.proofs.rows_refusal.Tie as tie
+
+-- what was lent
+abbrev units : tie.Start → Geometry
+units s = s .args .geometry
+
+abbrev made : tie.Start → Columns
+made s = columns (s .args .kinds .now) (s .args .firsts .now) (s .args .seconds .now) (s .args .thirds .now) (s .args .starts .now) (s .args .pool .now)
+
+rows-uneven-requires : tie.Need-rows-uneven-requires
+rows-uneven-requires c κs = search needs
+
+run-lengths-requires : tie.Need-run-lengths-requires
+run-lengths-requires c κs = search needs
+
+returns : tie.Need-returns
+returns c =
+    let s = c .before .before .before .before .before .before .before .before .before in
+    lengths-refuse (units s) (s .args .media) (s .args .copy) (s .args .uneven) (s .args .short) (s .args .rows) (made s) _ (c .before .before .rows-uneven .ensures) _ (c .before .run-lengths .ensures) (c .if1 .taken)
+
+run-contents-requires : tie.Need-run-contents-requires
+run-contents-requires c κs =
+    let s = c .before .before .before .before .before .before .before .before .before in
+    let e = lengths-pass (units s) (s .args .media) (s .args .copy) (s .args .uneven) (s .args .short) (s .args .rows) (made s) _ (c .before .before .rows-uneven .ensures) _ (c .before .run-lengths .ensures) (c .if1 .left) .columns-even in
+    (e .1, e .3)
+
+returns-2 : tie.Need-returns-2
+returns-2 c =
+    let s = c .before .before .before .before .before .before .before .before .before .before in
+    contents-tell (units s) (s .args .media) (s .args .copy) (s .args .uneven) (s .args .short) (s .args .rows) (made s) _ (c .before .before .before .rows-uneven .ensures) _ (c .before .before .run-lengths .ensures) (c .before .if1 .left) _ (c .run-contents .ensures)
+
+pub rows-refusal-spec : {M : Type 1} → statement M
+rows-refusal-spec =
+    tie.close
+    (tie.spec rows-uneven-requires run-lengths-requires returns run-contents-requires returns-2)

@@ -1,0 +1,3 @@
+-- The tests of a script's rows. Definitions only; assumes nothing.
+pub mod Rows
+pub mod Ready

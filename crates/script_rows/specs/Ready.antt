@@ -1,0 +1,15 @@
+-- What the loops over a script's rows ask. No public contract cites this. Definitions only; assumes nothing.
+use mathlib.Core.Path.{_≡_}
+use mathlib.Core.Bool.{false}
+use Prim.Native.Nat.{ℕ, _≤_}
+use lib.ListN.{length, take}
+use Rattle.script.specs.Columns.{Columns}
+use Rattle.script_rows.specs.Rows.{anyOutside}
+
+pub record Ready (rows : ℕ) (k : Columns) : Type 0 where
+  pub firsts-even : length (k .firsts) ≡ length (k .kinds)
+  pub seconds-even : length (k .seconds) ≡ length (k .kinds)
+  pub thirds-even : length (k .thirds) ≡ length (k .kinds)
+  pub starts-even : length (k .starts) ≡ length (k .kinds)
+  pub room : rows ≤ length (k .kinds)
+  pub inside : anyOutside (length (k .pool)) (take rows (k .kinds)) (take rows (k .seconds)) (take rows (k .starts)) ≡ false
