@@ -20,7 +20,8 @@ use Rattle.sweeps.specs.Decided.{meets26}
 use Rattle.harness.specs.declared.Opened.{Opened}
 use Rattle.harness.specs.declared.Opened.the-variants.{Runs, NotSwept}
 
--- the operations recorded and how many crash points they have; no run's operations are refused here
+-- the operations recorded and how many crash points they have; over columns of 1,024 rows no script's operations are refused here
+-- (`counts-pass` of `text_of_runs`)
 abbrev pub openCount : (operations : ℕ) → Counted → Opened
 openCount operations (Points points) = Runs operations points
 openCount operations (NotCounted number) = NotSwept number

@@ -29,7 +29,7 @@ pub enum Opened {
     NotSwept(u32),
 }
 
-// What is armed in the run at a place.
+// What is armed in the run at a place; or the number that refuses the place.
 pub enum Placed {
     Run(Armed),
     NoRun(u32),

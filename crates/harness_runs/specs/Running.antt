@@ -31,7 +31,8 @@ runAtNumber h rows k media copy l m e =
     rowsNumber (h .geometry) media copy (logUnevenOf l || marksUnevenOf m || entriesUneven (length (e .ids)) (length (e .states)) (length (e .torn)))
     (logShort (length (l .kinds)) || marksShort (length (m .codes)) || marksShort (length (e .ids))) rows k
 
--- the stop, the operations recorded and how many entries; the ledger of a run is never refused
+-- the stop, the operations recorded and how many entries; over columns of 1,024 and 512 rows the ledger of a script's run is never refused
+-- (`ledger-passes` of `text_of_runs`)
 abbrev pub endedBy : Counters → Derived → RunAt
 endedBy c (Entries count) = Ended (c .stop) (c .operations) count
 endedBy c (NotDerived number) = NotRun number

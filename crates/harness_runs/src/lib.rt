@@ -1,5 +1,5 @@
-// The script's run with what is armed, and its ledger: every run of a sweep is one. It follows `Harness` in waymaker-fault's
-// session.rs. A run needs no more than the columns lent to it and depends on nothing that an earlier run left there.
+// One run of a sweep: the script's run with what is armed, and its ledger. It follows `Harness` in waymaker-fault's session.rs. A
+// run needs no more than the columns lent to it and depends on nothing that an earlier run left there.
 use landing::Stop;
 use ledger::Derived;
 use script::Head;

@@ -1,4 +1,4 @@
--- Document 01, "session.rs (974)": "A 26 at any point refuses the whole sweep." Whether one does is read off the script before any crash
+-- Document 01, "Scripts and the two programs": "A 26 at any point refuses the whole sweep." Whether one does is read off the script before any crash
 -- point runs, and each crash point is then the script's run with its injection. Definitions only; assumes nothing.
 use mathlib.Core.Bool.{Bool, false, not, _&&_, _||_, cond}
 use mathlib.Core.List.{List, [], _∷_, map}
@@ -26,7 +26,7 @@ rangeBehind n (erase offset count ∷ xs) = rangeBehind (suc n) xs
 rangeBehind n (barrier ∷ xs) = rangeBehind (suc n) xs
 
 -- A writer that carries on marks the same ranges in every run. One that stops at its first error never reaches such a range in the run
--- that is cut at the operation where the range begins or ends: the fault-free run has a mark there that this run has not.
+-- that a watchdog cuts at the operation where the range begins or ends: the fault-free run has a mark there that this run has not.
 abbrev pub meets26 : Head → List Call → Bool
 meets26 h xs = not (h .«carries_on») && rangeBehind 0 xs
 

@@ -33,7 +33,7 @@ ruleOf false = Absorbed
 abbrev pub toldBy : Head → Armed → Told
 toldBy h a = record { geometry = h .geometry; bits = ruleOf (h .rejected); armed = a }
 
--- a session as a start leaves it, over columns of zeros
+-- a session as a start leaves it; the copy is filled with 0xFF and the columns with zeros, as a script's run clears them
 abbrev pub openedBy : Head → Session
 openedBy h =
     let column : List ℕ = replicate 1024 0 in

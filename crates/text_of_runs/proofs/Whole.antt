@@ -4,7 +4,7 @@
 -- Assumes nothing.
 use mathlib.Core.Path.{_≡_, refl, sym, ap, ap₂, _∙_}
 use mathlib.Core.Bool.{Bool, true, false, _||_}
-use mathlib.Core.List.{List, [], _∷_, _++_}
+use mathlib.Core.List.{List, [], _∷_, _++_, append-nil, flatten}
 use Prim.Native.Nat.{ℕ, suc, _+_, _≤_, _<_}
 use native.Mathlib.Nat.{add-zero, le-trans}
 use native.Mathlib.Omega.{arith}
@@ -26,12 +26,13 @@ use Rattle.script.specs.Columns.{Columns, bytesOf, written, after, readInto}
 use Rattle.script.specs.Held.{callsIn}
 use Rattle.script.proofs.Kept.{calls-kept}
 use Rattle.script.proofs.Rooms.{never-short}
-use Rattle.lines.specs.Lines.{Shown, sweepLine, judgeLine, suggested, runsLine, linesFrom, sweepText, judgeText}
+use Rattle.lines.specs.Lines.{Shown, sweepLine, judgeLine, suggested, runsLine, refusedText, linesFrom, sweepText, judgeText}
 use Rattle.sweeps.specs.Sweep.{runBy, pointsOf, Swept, runs, notSwept, sweptOf, printedBy}
 use Rattle.sweeps.specs.Decided.{meets26, runShown, runsShown, decidedBy, decidedScript}
 use Rattle.sweeps.proofs.Decided.{swept-script}
 use Rattle.harness_runs.specs.Running.{RanAt, runAtNumber, runAtCall}
 use Rattle.text_of_runs.specs.Lent.{Sheet, Desk, Book}
+use Rattle.text_of_runs.specs.Printout.{linesOfRuns, linesBy, sweepLines, judgeLines}
 use Rattle.text_of_runs.specs.Claim.{rowsTo, RunPrinted, PlacePrinted, Opens, SweepPrinted, Claim, runLines, Outputs, Printed, unread, unswept, swept}
 use Rattle.text_of_runs.proofs.Sheets.{head-passes, head-small, rows-pass}
 use Rattle.text_of_runs.proofs.Ledgers.{run-ended, run-reads, few-entries}
@@ -44,17 +45,17 @@ use Rattle.text_of_runs.proofs.Openings.{left, open-is, armedAt, placed
 -- ---- lines by place
 
 module _ (f : ℕ → Shown → List ℕ) (line : ℕ → List ℕ) (d : Shown) where
-  lines-from : (rs : List Shown) (p : ℕ) → ((i : ℕ) → i < length rs → f (p + i) (getD rs i d) ≡ line (p + i)) → linesFrom f p rs ≡ runLines line (length rs) p
-  unfolding linesFrom runLines
+  lines-from : (rs : List Shown) (p : ℕ) → ((i : ℕ) → i < length rs → f (p + i) (getD rs i d) ≡ line (p + i)) → linesOfRuns f p rs ≡ runLines line (length rs) p
+  unfolding linesOfRuns runLines
   lines-from [] p e = refl
   lines-from (r ∷ rs) p e =
       let first : f p r ≡ line p = ap (λ (n : ℕ). f n r) (sym (add-zero p)) ∙ e 0 (omega arith) ∙ ap line (add-zero p) in
-      ap₂ (λ (a b : List ℕ). a ++ b) first (lines-from rs (suc p) (λ i b. next i (e (suc i) (omega arith))))
+      ap₂ (λ (a : List ℕ) (b : List (List ℕ)). a ∷ b) first (lines-from rs (suc p) (λ i b. next i (e (suc i) (omega arith))))
     where
       next : (i : ℕ) → f (p + suc i) (getD rs i d) ≡ line (p + suc i) → f (suc p + i) (getD rs i d) ≡ line (suc p + i)
       next i q = let s : suc p + i ≡ p + suc i = omega arith in rw s q
 
-  pub lines-are : (rs : List Shown) → ((i : ℕ) → i < length rs → f i (getD rs i d) ≡ line i) → linesFrom f 0 rs ≡ runLines line (length rs) 0
+  pub lines-are : (rs : List Shown) → ((i : ℕ) → i < length rs → f i (getD rs i d) ≡ line i) → linesOfRuns f 0 rs ≡ runLines line (length rs) 0
   lines-are rs e = lines-from rs 0 (λ i b. let s : 0 + i ≡ i = omega arith in rw s (e i b))
 
 -- ---- what is lent is even and long enough
@@ -85,8 +86,26 @@ module _ (capacity : ℕ) (media copy : List ℕ) (l : Log) (m : Marks) (z : Des
 
 -- ---- the two outputs
 
-outputs-by : (text : List ℕ) (w : Swept) → sweptOf text ≡ w → Outputs text (printedBy sweepText w) (printedBy judgeText w)
-outputs-by text w e = record { sweep-is = ap (printedBy sweepText) e; judge-is = ap (printedBy judgeText) e }
+-- the text of runs is their lines, one after the other
+flat-runs : (f : ℕ → Shown → List ℕ) (p : ℕ) (rs : List Shown) → linesFrom f p rs ≡ flatten (linesOfRuns f p rs)
+unfolding linesFrom linesOfRuns flatten
+flat-runs f p [] = refl
+flat-runs f p (r ∷ rs) = ap (λ (t : List ℕ). f p r ++ t) (flat-runs f (suc p) rs)
+
+flat-by : (f : ℕ → Shown → List ℕ) (w : Swept) → printedBy (λ (rs : List Shown). runsLine (length rs) ++ linesFrom f 0 rs) w ≡ flatten (linesBy f w)
+unfolding flatten
+flat-by f (runs rs) = ap (λ (t : List ℕ). runsLine (length rs) ++ t) (flat-runs f 0 rs)
+flat-by f (notSwept number line) = sym (append-nil (refusedText number line))
+
+outputs-by : (text : List ℕ) (w : Swept) → sweptOf text ≡ w → (sweep judge : List (List ℕ)) → linesBy sweepLine w ≡ sweep → linesBy judgeLine w ≡ judge
+    → Outputs text sweep judge
+unfolding sweepLines judgeLines
+outputs-by text w e sweep judge s j = record {
+  sweep-lines = ap (linesBy sweepLine) e ∙ s;
+  sweep-is = ap (printedBy sweepText) e ∙ flat-by sweepLine w ∙ ap flatten s;
+  judge-lines = ap (linesBy judgeLine) e ∙ j;
+  judge-is = ap (printedBy judgeText) e ∙ flat-by judgeLine w ∙ ap flatten j;
+}
 
 -- ---- a script that was read
 
@@ -96,6 +115,9 @@ module _ (text : List ℕ) (h : Head) (xs : List Call) (e : scriptOf text ≡ sc
 
   abbrev passes : geometryTest (h .geometry) ≡ 0
   passes = head-passes text h xs e
+
+  small : h .geometry .capacity ≤ 16384
+  small = head-small text h xs e
 
   holds : callsIn (length xs) sheet ≡ xs
   holds = calls-kept xs k
@@ -178,12 +200,12 @@ module _ (text : List ℕ) (h : Head) (xs : List Call) (e : scriptOf text ≡ sc
   -- ---- the text
 
   text-by : (f : (place : ℕ) → Shown → List ℕ)
-      → runsLine (length (runsShown h xs faultFree)) ++ linesFrom f 0 (runsShown h xs faultFree) ≡ runsLine (suc points) ++ runLines (lineBy f) (suc points) 0
+      → runsLine (length (runsShown h xs faultFree)) ∷ linesOfRuns f 0 (runsShown h xs faultFree) ≡ runsLine (suc points) ∷ runLines (lineBy f) (suc points) 0
   text-by f =
       let n : length (runsShown h xs faultFree) ≡ suc points = runs-count h xs passes in
-      let ls : linesFrom f 0 (runsShown h xs faultFree) ≡ runLines (lineBy f) (length (runsShown h xs faultFree)) 0 =
+      let ls : linesOfRuns f 0 (runsShown h xs faultFree) ≡ runLines (lineBy f) (length (runsShown h xs faultFree)) 0 =
       lines-are f (lineBy f) (runShown h xs Nothing) (runsShown h xs faultFree) (λ i b. ap (f i) (shown-at h xs passes i (below i b))) in
-      ap₂ (λ (c : ℕ) (t : List ℕ). runsLine c ++ t) n (ls ∙ ap (λ (c : ℕ). runLines (lineBy f) c 0) n)
+      ap₂ (λ (c : ℕ) (t : List (List ℕ)). runsLine c ∷ t) n (ls ∙ ap (λ (c : ℕ). runLines (lineBy f) c 0) n)
     where
       below : (i : ℕ) → i < length (runsShown h xs faultFree) → i ≤ points
       below i b = let n : length (runsShown h xs faultFree) ≡ suc points = runs-count h xs passes in omega arith
@@ -193,26 +215,26 @@ module _ (text : List ℕ) (h : Head) (xs : List Call) (e : scriptOf text ≡ sc
 
   by-ways : (f b : Bool) → runBy h xs Nothing .failed ≡ f → meets26 h xs ≡ b → Printed text k
   by-ways true b p q =
-      unswept h (length xs) (length (bytesOf xs)) sheet (left h xs passes) 24 reads opens (rw p) (outputs-by text (notSwept 24 0) (decided-is ∙ rw p))
+      unswept h (length xs) (length (bytesOf xs)) sheet (left h xs passes) 24 reads small opens (rw p) (outputs-by text (notSwept 24 0) (decided-is ∙ rw p) _ _ refl refl)
   by-ways false true p q =
-      unswept h (length xs) (length (bytesOf xs)) sheet (left h xs passes) 26 reads opens (rw (p, q)) (outputs-by text (notSwept 26 0) (decided-is ∙ rw (p, q)))
+      unswept h (length xs) (length (bytesOf xs)) sheet (left h xs passes) 26 reads small opens (rw (p, q)) (outputs-by text (notSwept 26 0) (decided-is ∙ rw (p, q)) _ _ refl refl)
   by-ways false false p q =
-      let o = outputs-by text (runs (runsShown h xs faultFree)) (decided-is ∙ rw (p, q)) in
       let w : SweepPrinted h (length xs) sheet (left h xs passes) (faultFree .counters .operations) points (lineBy sweepLine) (lineBy judgeLine) =
       record {
         opened = rw (p, q);
         few-operations = run-steady h xs Nothing .few-operations;
-        few-points = points-few h xs Nothing (head-small text h xs e);
+        few-points = points-few h xs Nothing small;
         at-places = place-printed;
       } in
-      swept h (length xs) (length (bytesOf xs)) sheet (left h xs passes) (faultFree .counters .operations) points (lineBy sweepLine) (lineBy judgeLine) reads opens w
-      (record { sweep-is = o .sweep-is ∙ text-by sweepLine; judge-is = o .judge-is ∙ text-by judgeLine })
+      swept h (length xs) (length (bytesOf xs)) sheet (left h xs passes) (faultFree .counters .operations) points (lineBy sweepLine) (lineBy judgeLine) reads small opens w
+      (outputs-by text (runs (runsShown h xs faultFree)) (decided-is ∙ rw (p, q)) (runsLine (suc points) ∷ runLines (lineBy sweepLine) (suc points) 0)
+      (runsLine (suc points) ∷ runLines (lineBy judgeLine) (suc points) 0) (text-by sweepLine) (text-by judgeLine))
 
 -- ---- every text
 
 by-script : (text : List ℕ) (k : Columns) → Sheet k → (s : Script) → scriptOf text ≡ s → Printed text k
 unfolding readInto
-by-script text k z (refused number line) e = unread number line (rw e) (outputs-by text (notSwept number line) (swept-script text ∙ ap decidedScript e))
+by-script text k z (refused number line) e = unread number line (rw e) (outputs-by text (notSwept number line) (swept-script text ∙ ap decidedScript e) _ _ refl refl)
 by-script text k z (script h xs) e = by-ways text h xs e k z (runBy h xs Nothing .failed) (meets26 h xs) refl refl
 
 -- a script that is refused, a sweep that is refused by 24 or 26, or the count of runs and the line of each: there is no other way

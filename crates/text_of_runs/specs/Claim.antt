@@ -2,7 +2,7 @@
 -- script, opens the sweep, and at each place asks what is armed, runs the script with it and writes the run's line. What each function
 -- answers is the definition that its contract cites; the text is that of document 01. Definitions only; assumes nothing.
 use mathlib.Core.Path.{_≡_}
-use mathlib.Core.List.{List, [], _++_}
+use mathlib.Core.List.{List, [], _∷_, flatten}
 use Prim.Native.Nat.{ℕ, zero, suc, _≤_}
 use lib.ListN.{length, take}
 use Rattle.landing.specs.declared.Stop.{Stop}
@@ -25,6 +25,7 @@ use Rattle.harness.specs.Places.{placedAt}
 use Rattle.harness_runs.specs.declared.RunAt.the-variants.{Ended}
 use Rattle.harness_runs.specs.Running.{RanAt, runAtCall}
 use Rattle.text_of_runs.specs.Lent.{Sheet, Desk, Book}
+use Rattle.text_of_runs.specs.Printout.{sweepLines, judgeLines}
 
 -- ---- one run
 
@@ -71,9 +72,9 @@ abbrev pub Opens : Head → (rows : ℕ) → Columns → OpenLeft → Type 0
 Opens h rows k o = (media copy : List ℕ) (l : Log) (m : Marks) → Desk (h .geometry .capacity) media copy l m → openCall h rows k media copy l m ≡ o
 
 -- the lines of so many runs, from a place on
-unfoldable pub runLines : (line : (place : ℕ) → List ℕ) → (runs place : ℕ) → List ℕ
+unfoldable pub runLines : (line : (place : ℕ) → List ℕ) → (runs place : ℕ) → List (List ℕ)
 runLines line zero place = []
-runLines line (suc n) place = line place ++ runLines line n (suc place)
+runLines line (suc n) place = line place ∷ runLines line n (suc place)
 
 -- a sweep that was opened: how many operations and crash points there are, neither too many, and the run at each place
 pub record SweepPrinted (h : Head) (rows : ℕ) (k : Columns) (o : OpenLeft) (operations points : ℕ) (sweep judge : ℕ → List ℕ) : Type 0 where
@@ -82,22 +83,24 @@ pub record SweepPrinted (h : Head) (rows : ℕ) (k : Columns) (o : OpenLeft) (op
   pub few-points : points ≤ 50337794
   pub at-places : (place : ℕ) → place ≤ points → PlacePrinted h rows k (o .log) operations place (sweep place) (judge place)
 
--- what the two programs print
-pub record Outputs (text sweep judge : List ℕ) : Type 0 where
-  pub sweep-is : sweepOutput text ≡ sweep
-  pub judge-is : judgeOutput text ≡ judge
+-- what the two programs print: these lines, one after the other
+pub record Outputs (text : List ℕ) (sweep judge : List (List ℕ)) : Type 0 where
+  pub sweep-lines : sweepLines text ≡ sweep
+  pub sweep-is : sweepOutput text ≡ flatten sweep
+  pub judge-lines : judgeLines text ≡ judge
+  pub judge-is : judgeOutput text ≡ flatten judge
 
 -- a program's three ways, for a script's bytes and the columns that it is read into
 pub data Printed (text : List ℕ) (k : Columns) : Type 0 where
   -- `read_script` refuses: its number and line are printed
-  unread : (number line : ℕ) → readInto text k ≡ after (Refused number line) k → Outputs text (refusedText number line) (refusedText number line) → Printed text k
+  unread : (number line : ℕ) → readInto text k ≡ after (Refused number line) k → Outputs text (refusedText number line ∷ []) (refusedText number line ∷ []) → Printed text k
   -- `open_sweep` refuses: its number and 0
   unswept : (h : Head) (rows bytes : ℕ) (sheet : Columns) (o : OpenLeft) (number : ℕ) → readInto text k ≡ after (Read h rows bytes) sheet
-      → Opens h rows sheet o → o .reply ≡ NotSwept number → Outputs text (refusedText number 0) (refusedText number 0) → Printed text k
+      → h .geometry .capacity ≤ 16384 → Opens h rows sheet o → o .reply ≡ NotSwept number → Outputs text (refusedText number 0 ∷ []) (refusedText number 0 ∷ []) → Printed text k
   -- the count of runs, and a line for each place
   swept : (h : Head) (rows bytes : ℕ) (sheet : Columns) (o : OpenLeft) (operations points : ℕ) (sweep judge : ℕ → List ℕ)
-      → readInto text k ≡ after (Read h rows bytes) sheet → Opens h rows sheet o → SweepPrinted h rows sheet o operations points sweep judge
-      → Outputs text (runsLine (suc points) ++ runLines sweep (suc points) 0) (runsLine (suc points) ++ runLines judge (suc points) 0) → Printed text k
+      → readInto text k ≡ after (Read h rows bytes) sheet → h .geometry .capacity ≤ 16384 → Opens h rows sheet o → SweepPrinted h rows sheet o operations points sweep judge
+      → Outputs text (runsLine (suc points) ∷ runLines sweep (suc points) 0) (runsLine (suc points) ∷ runLines judge (suc points) 0) → Printed text k
 
 -- The claim: whatever the text, and whatever the columns of 32,768 rows hold that it is read into.
 abbrev pub Claim : Type 0

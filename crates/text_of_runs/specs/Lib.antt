@@ -1,4 +1,5 @@
 -- What the functions that `sweep` and `judge` call give together. A buyer reads `Claim`. Definitions only; assumes nothing.
 pub mod Steady
 pub mod Lent
+pub mod Printout
 pub mod Claim

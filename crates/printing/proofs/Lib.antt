@@ -1,0 +1,2 @@
+-- Laws alone: the parts of a text, counted.
+pub mod Counts

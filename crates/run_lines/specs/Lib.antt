@@ -1,0 +1,2 @@
+-- The line of the run at a place. Definitions only; assumes nothing.
+pub mod RunLine
