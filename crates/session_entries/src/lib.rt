@@ -74,7 +74,7 @@ fn cell_u64(cells: &[u64], at: usize) -> u64
 }
 
 // A row of the columns as an entry; a column that ends before it gives 0.
-pub fn row_of(
+fn row_of(
     kinds: &[u8],
     offsets: &[u32],
     lens: &[u32],

@@ -9,8 +9,8 @@ use Rattle.basics.specs.Tests.{firstOf}
 use Rattle.session.specs.declared.Entry.{Entry}
 use Rattle.session.specs.Log.{Log, logged}
 use Rattle.session_entries.specs.declared.EntryAnswer.{EntryAnswer}
-use Rattle.session_entries.specs.declared.EntryAnswer.the-variants.{Found, NotThere}
-use Rattle.session_entries.specs.Entries.{noEntry, placeTest, rowOf, entriesNumber}
+use Rattle.session_entries.specs.declared.EntryAnswer.the-variants.{NotThere}
+use Rattle.session_entries.specs.Entries.{noEntry, placeTest, entryBy, rowOf, entriesNumber}
 
 -- the log in the local: as many entries as a session takes, none of which an operation left
 unfoldable pub blankLog : List Entry
@@ -27,7 +27,7 @@ unlessRefused number answer = cond (eqb number 0) answer (NotThere number)
 -- the entry at an index of a session's log in which `entry` is recorded at `at`
 unfoldable pub entryWith : Log → (at : ℕ) → (entry : Entry) → (index : ℕ) → EntryAnswer
 entryWith l at e i =
-    unlessRefused (withNumber at i (length (l .kinds)) (entriesNumber l blankLog)) (Found (rowOf (logged l at e) i))
+    entryBy (withNumber at i (length (l .kinds)) (entriesNumber l blankLog)) (rowOf (logged l at e) i)
 
 -- a log that starts with one entry
 abbrev pub startedWith : Entry → List Entry

@@ -15,7 +15,6 @@ use inject::Progress;
 use landing::Stop;
 use libc::STDOUT_FILENO;
 use session::Armed;
-use session::Called;
 use session::Counters;
 use session::Entry;
 use session::Told;
@@ -53,11 +52,42 @@ fn show_entry(entry: Entry) {
     print_number(entry.answered as u64, b"\n");
 }
 
-fn show(called: Called, entry: Entry) {
-    let counters = called.counters;
-    print_number(called.answer as u64, b" ");
-    print_number(counters.operations as u64, b" ");
-    show_entry(entry);
+fn cell_u8(cells: &[u8], at: usize) -> u8 {
+    if at < cells.len() {
+        return cells[at];
+    }
+    0
+}
+
+fn cell_u32(cells: &[u32], at: usize) -> u32 {
+    if at < cells.len() {
+        return cells[at];
+    }
+    0
+}
+
+fn cell_u64(cells: &[u64], at: usize) -> u64 {
+    if at < cells.len() {
+        return cells[at];
+    }
+    0
+}
+
+fn show_row(
+    kinds: &[u8],
+    offsets: &[u32],
+    lens: &[u32],
+    digests: &[u64],
+    changed: &[u8],
+    answered: &[u8],
+    index: usize,
+) {
+    print_number(cell_u8(kinds, index) as u64, b" ");
+    print_number(cell_u32(offsets, index) as u64, b" ");
+    print_number(cell_u32(lens, index) as u64, b" ");
+    print_number(cell_u64(digests, index), b" ");
+    print_number(cell_u8(changed, index) as u64, b" ");
+    print_number(cell_u8(answered, index) as u64, b"\n");
 }
 
 fn step(
@@ -80,9 +110,11 @@ fn step(
         changed,
         answered,
     );
-    let entry = session_entries::row_of(kinds, offsets, lens, digests, changed, answered, index);
-    show(called, entry);
-    called.counters
+    let after = called.counters;
+    print_number(called.answer as u64, b" ");
+    print_number(after.operations as u64, b" ");
+    show_row(kinds, offsets, lens, digests, changed, answered, index);
+    after
 }
 
 fn fresh() -> Counters {
@@ -182,22 +214,8 @@ fn start(
         changed,
         answered,
     );
-    let entry = session_entries::row_of(kinds, offsets, lens, digests, changed, answered, 0);
     print_number(answer as u64, b" ");
-    show_entry(entry);
-}
-
-fn show_row(
-    kinds: &[u8],
-    offsets: &[u32],
-    lens: &[u32],
-    digests: &[u64],
-    changed: &[u8],
-    answered: &[u8],
-    index: usize,
-) {
-    let entry = session_entries::row_of(kinds, offsets, lens, digests, changed, answered, index);
-    show_entry(entry);
+    show_row(kinds, offsets, lens, digests, changed, answered, 0);
 }
 
 fn start_all() {
