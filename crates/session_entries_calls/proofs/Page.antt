@@ -9,16 +9,15 @@ use lib.ListN.{length, set, length-set}
 use lib.Dec.{eqb}
 use borrow.Author.Tests.{eqb-true}
 use Rattle.session.specs.declared.Told.{Told}
-use Rattle.session.specs.declared.Counters.{Counters}
 use Rattle.session.specs.declared.Entry.{Entry}
 use Rattle.session.specs.Log.{Log, logged}
-use Rattle.session.specs.Barrier.{barrierTest, barrierReply, barrierEntry}
-use Rattle.session_erase.specs.Erase.{eraseNumberOf, erasePlan, eraseLanding, eraseEntry}
-use Rattle.session_program.specs.Program.{programNumberOf, programPlan, programLanding, programEntry}
+use Rattle.session.specs.Barrier.{barrierTest}
+use Rattle.session_erase.specs.Erase.{eraseNumberOf}
+use Rattle.session_program.specs.Program.{programNumberOf}
 use Rattle.plain.specs.Plain.{program, erase, barrier, Call, act, mark}
 use Rattle.ledger.specs.Records.{begin, end}
-use Rattle.threaded.specs.Threaded.{Session, answered, Threaded, threaded}
-use Rattle.session_entries.specs.Entries.{noEntry, withRows, entriesNumber, toEntries, columnsNumber, toColumns, OfLength, Same}
+use Rattle.threaded.specs.Threaded.{Session, answered, threaded}
+use Rattle.session_entries.specs.Entries.{withRows, entriesNumber, toEntries, columnsNumber, toColumns, OfLength, Same}
 use Rattle.session_entries.proofs.Refused.{moved-fits}
 use Rattle.session_entries.proofs.Correspond.{again}
 use Rattle.session_entries.proofs.Recorded.{recorded-is-stored, stored-same, recorded-length}

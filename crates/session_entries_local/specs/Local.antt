@@ -1,5 +1,5 @@
 -- Document 01, "Expected forms by place": "then the operation log is a lent slice of entries". Callers that have such a log in a local
--- and lend it: what they answer, by the columns alone. Definitions only; assumes nothing.
+-- and lend it: what `entry_with` answers, and the log that `start_with` lays out. Definitions only; assumes nothing.
 use Prim.Native.Nat.{ℕ}
 use mathlib.Core.Bool.{cond}
 use mathlib.Core.List.{List, [], _∷_}
@@ -16,7 +16,7 @@ use Rattle.session_entries.specs.Entries.{noEntry, placeTest, entryBy, rowOf, e
 unfoldable pub blankLog : List Entry
 blankLog = replicate 1024 noEntry
 
--- "the lowest number comes first": 11 for an index outside the columns, then the number of handing them on
+-- "the lowest number comes first": 11 for an index outside the columns, then 12 or 13, with which they cannot be handed on
 unfoldable pub withNumber : (at index rows number : ℕ) → ℕ
 withNumber at i rows number = firstOf (placeTest at rows ∷ placeTest i rows ∷ number ∷ [])
 

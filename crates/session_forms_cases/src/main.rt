@@ -5,9 +5,11 @@
 // the third is refused with 21 and changes nothing: its row is empty.
 // Then lines of a log of entries: 0 and an entry, or the number that refuses. In that log an erase of 8 bytes at 8 is recorded at an
 // index. Asked for: the first barrier; the erase; the empty row behind it; an index outside (11); with the erase outside (11); in
-// columns of which one is shorter (12), and there outside (11, the lower number); in columns longer than a session's (13).
+// columns of which the first is shorter (12), and there outside it (11, the lower number); in columns of 1,025 rows, one more than the
+// local log has (13).
 // Then lines of a log that starts with that erase, laid out in columns that were all 7: the answer and row 0. In a session's columns
 // (0, and row 1, which is empty), in columns of which one is longer (12) and in columns that are too short (13), both unchanged.
+// The Rust has no such forms, so the file `stdout` replays nothing: each line follows from document 01 and the sentences above.
 use device::OneWayBits;
 use inject::Injection;
 use inject::Interruption;

@@ -61,10 +61,10 @@ use Rattle.session_entries.proofs.store_entry as put
 use Rattle.session_entries.proofs.store_entry.Symbol as put-def
 use Rattle.session_entries.proofs.store_entry.Symbol.{name as #put}
 use Rattle.session_entries.proofs.store_entry.Met as put-thm
-use Rattle.session_entries.proofs.to_columns as col
-use Rattle.session_entries.proofs.to_columns.Symbol as col-def
-use Rattle.session_entries.proofs.to_columns.Symbol.{name as #col}
-use Rattle.session_entries.proofs.to_columns.Met as col-thm
+use Rattle.session_entries_back.proofs.to_columns as col
+use Rattle.session_entries_back.proofs.to_columns.Symbol as col-def
+use Rattle.session_entries_back.proofs.to_columns.Symbol.{name as #col}
+use Rattle.session_entries_back.proofs.to_columns.Met as col-thm
 use Rattle.session_entries_local.proofs.start_with.Key.{name as #f}
 use Rattle.session_entries_local.proofs.start_with as f
 use Rattle.session_entries_local.proofs.start_with.Statement as stated
@@ -363,4 +363,4 @@ start-with-spec 𝓤 H 𝓜 𝓖 𝓡 =
     (tables 𝓤 H 𝓜 𝓡 code.env .C) (tables 𝓤 H 𝓜 𝓡 code.env .Λ) #f code.function (code.unfolded 𝓤 H 𝓜 𝓡)
     (meets 𝓤 H (𝓖 .A) (givenOf 𝓤 H 𝓜 𝓖) (𝓜 .mem) (𝓡 .run) (tablesOf 𝓤 H 𝓜 (tables 𝓤 H 𝓜 𝓡 code.env))
     (cited 𝓤 H (Put 𝓤 H (𝓖 .A) (𝓜 .mem) (𝓡 .run)) 𝓜 𝓡 code.env #put put-def.routine code.calls-session-entries·store-entry (put-thm.met 𝓤 H 𝓜 𝓖 𝓡))
-    (cited 𝓤 H (Col 𝓤 H (𝓖 .A) (𝓜 .mem) (𝓡 .run)) 𝓜 𝓡 code.env #col col-def.routine code.calls-session-entries·to-columns (col-thm.met 𝓤 H 𝓜 𝓖 𝓡)))
+    (cited 𝓤 H (Col 𝓤 H (𝓖 .A) (𝓜 .mem) (𝓡 .run)) 𝓜 𝓡 code.env #col col-def.routine code.calls-session-entries-back·to-columns (col-thm.met 𝓤 H 𝓜 𝓖 𝓡)))
