@@ -17,7 +17,7 @@ use Rattle.session_program.specs.Program.{programNumberOf}
 use Rattle.plain.specs.Plain.{program, erase, barrier, Call, act, mark}
 use Rattle.ledger.specs.Records.{begin, end}
 use Rattle.threaded.specs.Threaded.{Session, answered, threaded}
-use Rattle.session_entries.specs.Entries.{withRows, entriesNumber, toEntries, columnsNumber, toColumns, OfLength, Same}
+use Rattle.session_entries.specs.Entries.{withRows, movedTest, entriesNumber, toEntries, columnsNumber, toColumns, OfLength, Same}
 use Rattle.session_entries.proofs.Refused.{moved-fits}
 use Rattle.session_entries.proofs.Correspond.{again}
 use Rattle.session_entries.proofs.Recorded.{recorded-is-stored, stored-same, recorded-length}
@@ -52,7 +52,28 @@ again-by number log l i e even s low =
     ∙ ap (withRows (recordedBy number l i e) log) (after .0)
     ∙ rows-by (eqb number 0) (length (l .kinds)) log l i e even s (λ t. low (eqb-true number 0 t))
 
+-- the number of handing on is a matter of lengths, which a call keeps
+number-by : (b : Bool) (l : Log) (i : ℕ) (e : Entry) (log : List Entry) → entriesNumber (cond b (logged l i e) l) log ≡ entriesNumber l log
+number-by true l i e log = λ k.
+    movedTest (length-set (l .kinds) i (e .kind) k) (length-set (l .offsets) i (e .offset) k) (length-set (l .lens) i (e .len) k) (length-set (l .digests) i (e .digest) k)
+    (length-set (l .changed) i (e .changed) k) (length-set (l .answered) i (e .answered) k) (length-set (l .kinds) i (e .kind) k) (length log)
+number-by false l i e log = refl
+
 -- ---- every call
+
+number-stays : (t : Told) (s : Session) (x : Call) (log : List Entry) → entriesNumber (answered t s x .session .log) log ≡ entriesNumber (s .log) log
+unfolding answered
+number-stays t s (act (program offset bytes)) log =
+    ap (λ (k : Log). entriesNumber k log) (program-records t (s .counters) offset bytes (s .media) (s .copy) (s .log))
+    ∙ number-by (eqb (programNumberOf t (s .counters) offset bytes (s .media) (s .copy) (s .log)) 0) (s .log) (s .counters .operations) _ log
+number-stays t s (act (erase offset len)) log =
+    ap (λ (k : Log). entriesNumber k log) (erase-records t (s .counters) offset len (s .media) (s .copy) (s .log))
+    ∙ number-by (eqb (eraseNumberOf t (s .counters) offset len (s .media) (s .copy) (s .log)) 0) (s .log) (s .counters .operations) _ log
+number-stays t s (act barrier) log =
+    ap (λ (k : Log). entriesNumber k log) (barrier-records t (s .counters) (s .log))
+    ∙ number-by (eqb (barrierTest t (s .counters) (s .log)) 0) (s .log) (s .counters .operations) _ log
+number-stays t s (mark (begin id)) log = refl
+number-stays t s (mark end) log = refl
 
 call-keeps : (t : Told) (s : Session) (x : Call) (n : ℕ) (log : List Entry) → Same n log (s .log) → Same n (entriesAfter t s x log) (answered t s x .session .log)
 unfolding answered
@@ -178,6 +199,7 @@ carries-over = record {
   columns-of = columns-of;
   call-keeps = call-keeps;
   calls-keep = calls-keep;
+  number-stays = number-stays;
   handed-on-again = handed-on-again;
   kept-as-entries = kept-as-entries;
   kept-through = kept-through;

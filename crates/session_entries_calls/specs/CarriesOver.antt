@@ -76,7 +76,9 @@ pub record CarriesOver : Type 0 where
   -- 5. A call keeps it: one entry stored at the count, and the log is the same as the columns that the call leaves. So does a list of calls.
   pub call-keeps : (t : Told) (s : Session) (x : Call) (n : ℕ) (log : List Entry) → Same n log (s .log) → Same n (entriesAfter t s x log) (answered t s x .session .log)
   pub calls-keep : (t : Told) (s : Session) (xs : List Call) (n : ℕ) (log : List Entry) → Same n log (s .log) → Same n (entriesThrough t s xs log) (threaded t s xs .session .log)
-  -- 6. So the log handed on again after a call is the log with that one entry stored, also where it is longer than the columns,
+  -- 6. A call does not change what `to_entries` answers. So the log handed on again after a call is the log with that one entry stored,
+  -- also where it is longer than the columns,
+  pub number-stays : (t : Told) (s : Session) (x : Call) (log : List Entry) → entriesNumber (answered t s x .session .log) log ≡ entriesNumber (s .log) log
   pub handed-on-again : (t : Told) (s : Session) (x : Call) (log : List Entry) → entriesNumber (s .log) log ≡ 0 → Same (length (s .log .kinds)) log (s .log)
       → toEntries (answered t s x .session .log) log ≡ entriesAfter t s x log
   -- and a caller who keeps the log as entries, and for each call gets it back into columns, calls, and hands it on, has it too,
