@@ -1,5 +1,5 @@
--- A list that is filled from an index on: what stands where, and that filling by a function that differs at one index is a store
--- there. Assumes nothing.
+-- A list whose first n cells are filled, each by its index: what stands where, and that filling by a function that differs at one
+-- index is a store there. Assumes nothing.
 use mathlib.Core.Path.{_≡_, refl, sym, subst, _∙_}
 use mathlib.Core.Logic.{⊎-elim}
 use mathlib.Core.List.{List}

@@ -2,4 +2,5 @@ pub mod Fill
 pub mod Correspond
 pub mod Refused
 pub mod Returned
-pub mod Carried
+pub mod Recorded
+pub mod Turns

@@ -1,6 +1,6 @@
 -- Document 01, "Expected forms by place": "then the operation log is a lent slice of entries". How a log of entries and a log in
 -- columns correspond, both ways, and what is refused. Definitions only; assumes nothing.
-use Prim.Native.Nat.{ℕ, zero, suc}
+use Prim.Native.Nat.{ℕ, zero, suc, _<_, _≤_}
 use mathlib.Core.Path.{_≡_}
 use mathlib.Core.Bool.{cond}
 use mathlib.Core.List.{List, [], _∷_}
@@ -22,9 +22,18 @@ noEntry = record { kind = 0; offset = 0; len = 0; digest = 0; changed = 0; answe
 unfoldable pub placeTest : (index count : ℕ) → ℕ
 placeTest i count = unless (ltb i count) 11
 
+-- "Where an answer is an enum, a definition gives this paper's number and values for each of its cases."
+abbrev pub numberOfEntry : EntryAnswer → ℕ
+numberOfEntry (Found entry) = 0
+numberOfEntry (NotThere number) = number
+
+-- the answer that has a number: where it is 0, the entry
+abbrev pub entryBy : (number : ℕ) → Entry → EntryAnswer
+entryBy number entry = cond (eqb number 0) (Found entry) (NotThere number)
+
 -- the entry at an index, or the number that refuses
 unfoldable pub entryAt : List Entry → (index : ℕ) → EntryAnswer
-entryAt log i = cond (ltb i (length log)) (Found (getD log i noEntry)) (NotThere 11)
+entryAt log i = entryBy (placeTest i (length log)) (getD log i noEntry)
 
 -- row i of the columns as an entry
 unfoldable pub rowOf : Log → (index : ℕ) → Entry
@@ -68,15 +77,19 @@ columnsNumber log l = movedNumber l (length log) (length (l .kinds))
 abbrev pub toColumns : List Entry → Log → Log
 toColumns log l = withEntries log l (movedRows (columnsNumber log l) (length log))
 
--- columns of one length
+-- columns of one length, and columns with n rows or more
 abbrev pub OfLength : (n : ℕ) → Log → Type 0
 OfLength n l =
     (length (l .kinds) ≡ n) × (length (l .offsets) ≡ n) × (length (l .lens) ≡ n) × (length (l .digests) ≡ n) × (length (l .changed) ≡ n) × (length (l .answered) ≡ n)
 
--- what a call with this number leaves of the columns and of the entries: where the number is 0 it records an operation at an
--- index, else it changes nothing
-abbrev pub recordedBy : (number : ℕ) → Log → (index : ℕ) → Entry → Log
-recordedBy number l i e = cond (eqb number 0) (logged l i e) l
+abbrev pub HasRows : (n : ℕ) → Log → Type 0
+HasRows n l =
+    (n ≤ length (l .kinds)) × (n ≤ length (l .offsets)) × (n ≤ length (l .lens)) × (n ≤ length (l .digests)) × (n ≤ length (l .changed)) × (n ≤ length (l .answered))
 
-abbrev pub storedBy : (number : ℕ) → List Entry → (index : ℕ) → Entry → List Entry
-storedBy number log i e = cond (eqb number 0) (set log i e) log
+-- How entries and columns correspond: a log of entries and a log in columns are the same for n rows if both have as many and entry i
+-- is row i, for each i below n. What `to_entries` and `to_columns` leave is the same for every row that goes over (proofs/Returned),
+-- and a session's calls keep it (`session_entries_calls`).
+pub record Same (n : ℕ) (log : List Entry) (l : Log) : Type 0 where
+  pub entries : n ≤ length log
+  pub columns : HasRows n l
+  pub rows : (i : ℕ) → i < n → getD log i noEntry ≡ rowOf l i

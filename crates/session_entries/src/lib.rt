@@ -1,25 +1,18 @@
 // The operation log as a lent slice of entries: document 01's "then the operation log is a lent slice of entries". A few thin
 // functions over the covered column form. The session keeps its log in six columns of numbers; here a caller reads and stores
-// entries of a slice, and hands a session's log on as entries and gets it back. Each contract is an equation over the list of
-// entries. What is refused answers document 01's number and changes nothing: 11 for an index outside the log, 12 for columns of
-// different lengths, 13 for too little room.
+// entries of a slice, and hands a session's log on as entries; `session_entries_back` gets it back. Each contract is an equation over
+// the list of entries. What is refused answers document 01's number and changes nothing: 11 for an index outside the log, 12 for
+// columns of different lengths, 13 for too little room.
 use session::Entry;
 ghost use mathlib.Core.Path.{_≡_};
 ghost use lib.ListN.{length, set, getD};
 ghost use Rattle.session.specs.Log.{logOf};
-ghost use Rattle.session_entries.specs.Entries.{rowOf, placeTest, entryAt, movedTest, movedRows, entriesNumber, toEntries, columnsNumber, toColumns};
+ghost use Rattle.session_entries.specs.Entries.{rowOf, placeTest, entryAt, movedTest, movedRows, entriesNumber, toEntries};
 
 // What reading an entry answers: the entry, or the number that refuses.
 pub enum EntryAnswer {
     Found(Entry),
     NotThere(u32),
-}
-
-// How many entries the log has room for.
-pub fn entry_count(log: &[Entry]) -> usize
-    ensures { λ r. ⌜ r ≡ length (now (log .entry)) ⌝ }
-{
-    log.len()
 }
 
 // The entry at an index, or 11 for an index outside.
@@ -74,7 +67,7 @@ fn cell_u64(cells: &[u64], at: usize) -> u64
 }
 
 // A row of the columns as an entry; a column that ends before it gives 0.
-pub fn row_of(
+fn row_of(
     kinds: &[u8],
     offsets: &[u32],
     lens: &[u32],
@@ -97,7 +90,7 @@ pub fn row_of(
 
 // The number for handing `rows` rows to a place with room for `room`, over the columns' lengths: 12 where they are unequal, then
 // 13 where there is too little room.
-fn moved_number(
+pub fn moved_number(
     kinds: usize,
     offsets: usize,
     lens: usize,
@@ -116,7 +109,7 @@ fn moved_number(
 }
 
 // How many rows go over: none where a number refuses.
-fn moved_rows(number: u32, rows: usize) -> usize
+pub fn moved_rows(number: u32, rows: usize) -> usize
     ensures { λ r. ⌜ r ≡ movedRows number rows ⌝ }
 {
     if number == 0 { rows } else { 0 }
@@ -150,48 +143,6 @@ pub fn to_entries(
     while index < count {
         let entry = row_of(kinds, offsets, lens, digests, changed, answered, index);
         log[index] = entry;
-        index += 1;
-    }
-    number
-}
-
-// Gets it back: each entry is recorded in its row of the columns, as the session records an operation. Answers 0, 12 or 13.
-pub fn to_columns(
-    log: &[Entry],
-    kinds: &mut [u8],
-    offsets: &mut [u32],
-    lens: &mut [u32],
-    digests: &mut [u64],
-    changed: &mut [u8],
-    answered: &mut [u8],
-) -> u32
-    ensures { λ r. ⌜ (r ≡ columnsNumber (now (log .entry)) (logOf (now (kinds .entry)) (now (offsets .entry)) (now (lens .entry)) (now (digests .entry)) (now (changed .entry)) (now (answered .entry)))) × (logOf (now (kinds .exit)) (now (offsets .exit)) (now (lens .exit)) (now (digests .exit)) (now (changed .exit)) (now (answered .exit)) ≡ toColumns (now (log .entry)) (logOf (now (kinds .entry)) (now (offsets .entry)) (now (lens .entry)) (now (digests .entry)) (now (changed .entry)) (now (answered .entry)))) ⌝ }
-{
-    let rows = log.len();
-    let room = kinds.len();
-    let number = moved_number(
-        room,
-        offsets.len(),
-        lens.len(),
-        digests.len(),
-        changed.len(),
-        answered.len(),
-        rows,
-        room,
-    );
-    let count = moved_rows(number, rows);
-    let mut index = 0;
-    while index < count {
-        session::record(
-            kinds,
-            offsets,
-            lens,
-            digests,
-            changed,
-            answered,
-            index,
-            log[index],
-        );
         index += 1;
     }
     number

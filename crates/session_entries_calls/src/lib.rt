@@ -1,2 +1,2 @@
-// A session's program and erase, seen as entries: what each records in the columns is one entry stored at the count (proofs/Calls).
-// `session_entries` has the barrier's, and the law that all three follow from. There is no code here.
+// How a session's promises carry over to a log of entries: what a call records in the columns is one entry stored at the count. The
+// claims are on one page, specs/CarriesOver.antt; the proof is `carries-over` in proofs/Page.antt. There is no code here.

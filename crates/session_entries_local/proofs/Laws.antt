@@ -5,7 +5,7 @@ use mathlib.Core.Bool.{Bool, true, false, cond}
 use mathlib.Core.List.{List, [], _∷_}
 use Prim.Native.Nat.{ℕ, _<_, _≤_}
 use native.Mathlib.Omega.{arith}
-use lib.ListN.{length, getD, set, length-replicate}
+use lib.ListN.{length, set, length-replicate}
 use lib.Dec.{eqb, ltb}
 use borrow.Author.Tests.{eqb-true, ltb-true}
 use Rattle.basics.specs.Tests.{firstOf}
@@ -14,21 +14,16 @@ use Rattle.session.specs.declared.Entry.{Entry}
 use Rattle.session.specs.Log.{Log, logged}
 use Rattle.session_entries.specs.declared.EntryAnswer.{EntryAnswer}
 use Rattle.session_entries.specs.declared.EntryAnswer.the-variants.{Found, NotThere}
-use Rattle.session_entries.specs.Entries.{noEntry, placeTest, entryAt, rowOf, withRows, entriesNumber, toEntries, OfLength}
-use Rattle.session_entries.proofs.Fill.{fill-length, fill-at}
-use Rattle.session_entries.proofs.Correspond.{rows-fill}
-use Rattle.session_entries.proofs.Refused.{entry-inside}
-use Rattle.session_entries.proofs.Returned.{all-rows}
-use Rattle.session_entries.proofs.Carried.{moved-fits, recorded-is-stored}
+use Rattle.session_entries.specs.Entries.{noEntry, placeTest, numberOfEntry, entryAt, rowOf, withRows, entriesNumber, toEntries, OfLength}
+use Rattle.session_entries.proofs.Correspond.{entry-is-row, rows-length}
+use Rattle.session_entries.proofs.Refused.{entry-inside, number-of-answer, moved-fits}
+use Rattle.session_entries.proofs.Returned.{entries-all}
+use Rattle.session_entries.proofs.Recorded.{recorded-is-stored}
 use Rattle.session_entries_local.specs.Local.{blankLog, withNumber, unlessRefused, entryWith}
 
 pub blank-length : length blankLog ≡ 1024
 unfolding blankLog
 blank-length = length-replicate 1024 noEntry
-
--- handing rows on keeps the length
-pub as-long : (l : Log) (log : List Entry) (n : ℕ) → length (withRows l log n) ≡ length log
-as-long l log n = ap length (rows-fill l log n) ∙ fill-length (rowOf l) log n
 
 place-zero : (i n : ℕ) → placeTest i n ≡ 0 → i < n
 unfolding placeTest
@@ -51,13 +46,13 @@ module _ (l : Log) (at : ℕ) (e : Entry) (i : ℕ) where
 
     entries : set (toEntries l blankLog) at e ≡ withRows (logged l at e) blankLog n
     entries =
-        ap (λ (k : ℕ). set (withRows l blankLog k) at e) (all-rows (entriesNumber l blankLog) n z)
+        ap (λ (xs : List Entry). set xs at e) (entries-all l blankLog z)
         ∙ sym (recorded-is-stored l blankLog n at e (fits .0) at-in (fits .1))
 
     found : entryAt (withRows (logged l at e) blankLog n) i ≡ Found (rowOf (logged l at e) i)
     found =
-        sym (entry-inside (withRows (logged l at e) blankLog n) i (below i n (length blankLog) _ i-in (fits .1) (as-long (logged l at e) blankLog n)))
-        ∙ ap Found (ap (λ (xs : List Entry). getD xs i noEntry) (rows-fill (logged l at e) blankLog n) ∙ fill-at noEntry (rowOf (logged l at e)) blankLog n i i-in (fits .1))
+        sym (entry-inside (withRows (logged l at e) blankLog n) i (below i n (length blankLog) _ i-in (fits .1) (rows-length (logged l at e) blankLog n)))
+        ∙ ap Found (entry-is-row (logged l at e) blankLog n i (fits .1) i-in)
 
     read : entryAt (set (toEntries l blankLog) at e) i ≡ Found (rowOf (logged l at e) i)
     read = ap (λ (xs : List Entry). entryAt xs i) entries ∙ found
@@ -76,6 +71,11 @@ module _ (l : Log) (at : ℕ) (e : Entry) (i : ℕ) where
   pub with-law : unlessRefused m (entryAt (set (toEntries l blankLog) at e) i) ≡ entryWith l at e i
   unfolding entryWith
   with-law = by-case (eqb m 0) (entryAt (set (toEntries l blankLog) at e) i) (Found (rowOf (logged l at e) i)) (NotThere m) (λ t. open-zero (eqb-true m 0 t))
+
+-- what `entry_with` answers has the number of its tests
+pub with-answer : (l : Log) (at : ℕ) (e : Entry) (i : ℕ) → numberOfEntry (entryWith l at e i) ≡ withNumber at i (length (l .kinds)) (entriesNumber l blankLog)
+unfolding entryWith
+with-answer l at e i = number-of-answer (withNumber at i (length (l .kinds)) (entriesNumber l blankLog)) (rowOf (logged l at e) i)
 
 -- the number, told in four steps
 pub number-law : (at i rows number p next q r : ℕ) → p ≡ placeTest i rows → next ≡ firstOf (p ∷ number ∷ []) → q ≡ placeTest at rows → r ≡ firstOf (q ∷ next ∷ []) → r ≡ withNumber at i rows number

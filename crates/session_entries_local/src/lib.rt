@@ -1,26 +1,26 @@
-// Callers that have a log of entries in a local and lend it to `session_entries`: for a caller without a slice of entries, as
-// `session_lent`'s `barrier_once` is for one without lent counters. Their parameters are columns, numbers and an entry, so whoever
-// calls them needs no proof by hand.
+// Callers that have a log of entries in a local and lend it to `session_entries` and `session_entries_back`: for a caller without a
+// slice of entries, as `session_lent`'s `barrier_once` is for one without lent counters. Their parameters are columns, numbers and an
+// entry, so whoever calls them needs no proof by hand; they themselves are proved by hand.
 use basics::first_of;
 use session::Entry;
 use session_entries::EntryAnswer;
 use session_entries::read_entry;
 use session_entries::store_entry;
-use session_entries::to_columns;
 use session_entries::to_entries;
+use session_entries_back::to_columns;
 ghost use mathlib.Core.Path.{_≡_};
 ghost use Rattle.session.specs.Log.{logOf};
 ghost use Rattle.session_entries.specs.Entries.{placeTest, columnsNumber, toColumns};
 ghost use Rattle.session_entries_local.specs.Local.{withNumber, unlessRefused, entryWith, startedWith};
 
-// 11 where an index is outside.
+// 11 where an index is outside so many rows.
 fn place_number(index: usize, rows: usize) -> u32
     ensures { λ r. ⌜ r ≡ placeTest index rows ⌝ }
 {
     if index < rows { 0 } else { 11 }
 }
 
-// The number for two indices into so many rows, which are handed on with `number`.
+// The number of a call with two indices into so many rows: 11 where one is outside, then `number`, with which the rows were handed on.
 fn with_number(at: usize, index: usize, rows: usize, number: u32) -> u32
     ensures { λ r. ⌜ r ≡ withNumber at index rows number ⌝ }
 {
@@ -28,7 +28,7 @@ fn with_number(at: usize, index: usize, rows: usize, number: u32) -> u32
     first_of(place_number(at, rows), next)
 }
 
-// The answer, unless one of these numbers refuses.
+// The answer, unless that number refuses.
 fn answer_for(at: usize, index: usize, rows: usize, number: u32, answer: EntryAnswer) -> EntryAnswer
     ensures { λ r. ⌜ r ≡ unlessRefused (withNumber at index rows number) answer ⌝ }
 {
@@ -40,8 +40,8 @@ fn answer_for(at: usize, index: usize, rows: usize, number: u32, answer: EntryAn
     }
 }
 
-// The entry at `index` of a session's log in which `entry` is recorded at `at`; the columns stay as they are. Columns of more than
-// 1,024 rows are refused with 13.
+// The entry at `index` of a session's log in which `entry` is recorded at `at`; the columns stay as they are. Refused with 11 where
+// `at` or `index` is outside the columns, then with 12 where these are unequal, then with 13 where they have more than 1,024 rows.
 pub fn entry_with(
     kinds: &[u8],
     offsets: &[u32],
@@ -69,7 +69,8 @@ pub fn entry_with(
     answer_for(at, index, kinds.len(), number, answer)
 }
 
-// Lays a log of 1,024 entries that starts with `entry` out in columns, the other rows 0, and answers 0, 12 or 13.
+// Lays a log of 1,024 entries that starts with `entry` out in columns: the other 1,023 rows are 0, and rows past 1,024 stay. Answers 0,
+// or 12 or 13, and then nothing changes.
 pub fn start_with(
     entry: Entry,
     kinds: &mut [u8],

@@ -5,9 +5,11 @@
 // the third is refused with 21 and changes nothing: its row is empty.
 // Then lines of a log of entries: 0 and an entry, or the number that refuses. In that log an erase of 8 bytes at 8 is recorded at an
 // index. Asked for: the first barrier; the erase; the empty row behind it; an index outside (11); with the erase outside (11); in
-// columns of which one is shorter (12), and there outside (11, the lower number); in columns longer than a session's (13).
+// columns of which the first is shorter (12), and there outside it (11, the lower number); in columns of 1,025 rows, one more than the
+// local log has (13).
 // Then lines of a log that starts with that erase, laid out in columns that were all 7: the answer and row 0. In a session's columns
 // (0, and row 1, which is empty), in columns of which one is longer (12) and in columns that are too short (13), both unchanged.
+// The Rust has no such forms, so the file `stdout` replays nothing: each line follows from document 01 and the sentences above.
 use device::OneWayBits;
 use inject::Injection;
 use inject::Interruption;
@@ -15,7 +17,6 @@ use inject::Progress;
 use landing::Stop;
 use libc::STDOUT_FILENO;
 use session::Armed;
-use session::Called;
 use session::Counters;
 use session::Entry;
 use session::Told;
@@ -53,11 +54,42 @@ fn show_entry(entry: Entry) {
     print_number(entry.answered as u64, b"\n");
 }
 
-fn show(called: Called, entry: Entry) {
-    let counters = called.counters;
-    print_number(called.answer as u64, b" ");
-    print_number(counters.operations as u64, b" ");
-    show_entry(entry);
+fn cell_u8(cells: &[u8], at: usize) -> u8 {
+    if at < cells.len() {
+        return cells[at];
+    }
+    0
+}
+
+fn cell_u32(cells: &[u32], at: usize) -> u32 {
+    if at < cells.len() {
+        return cells[at];
+    }
+    0
+}
+
+fn cell_u64(cells: &[u64], at: usize) -> u64 {
+    if at < cells.len() {
+        return cells[at];
+    }
+    0
+}
+
+fn show_row(
+    kinds: &[u8],
+    offsets: &[u32],
+    lens: &[u32],
+    digests: &[u64],
+    changed: &[u8],
+    answered: &[u8],
+    index: usize,
+) {
+    print_number(cell_u8(kinds, index) as u64, b" ");
+    print_number(cell_u32(offsets, index) as u64, b" ");
+    print_number(cell_u32(lens, index) as u64, b" ");
+    print_number(cell_u64(digests, index), b" ");
+    print_number(cell_u8(changed, index) as u64, b" ");
+    print_number(cell_u8(answered, index) as u64, b"\n");
 }
 
 fn step(
@@ -80,9 +112,11 @@ fn step(
         changed,
         answered,
     );
-    let entry = session_entries::row_of(kinds, offsets, lens, digests, changed, answered, index);
-    show(called, entry);
-    called.counters
+    let after = called.counters;
+    print_number(called.answer as u64, b" ");
+    print_number(after.operations as u64, b" ");
+    show_row(kinds, offsets, lens, digests, changed, answered, index);
+    after
 }
 
 fn fresh() -> Counters {
@@ -182,22 +216,8 @@ fn start(
         changed,
         answered,
     );
-    let entry = session_entries::row_of(kinds, offsets, lens, digests, changed, answered, 0);
     print_number(answer as u64, b" ");
-    show_entry(entry);
-}
-
-fn show_row(
-    kinds: &[u8],
-    offsets: &[u32],
-    lens: &[u32],
-    digests: &[u64],
-    changed: &[u8],
-    answered: &[u8],
-    index: usize,
-) {
-    let entry = session_entries::row_of(kinds, offsets, lens, digests, changed, answered, index);
-    show_entry(entry);
+    show_row(kinds, offsets, lens, digests, changed, answered, 0);
 }
 
 fn start_all() {

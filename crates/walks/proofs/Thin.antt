@@ -2,14 +2,10 @@
 --     stay-said s k        of one parameter.        all-said ss ks       of a list of them
 --     goes-said, all-go    the law that each owes: there is nothing to give up
 --     early        `if c { a } rest`, where a returns: the walk goes on with a, and, where the test failed, with rest
---     set-past     a store past the end changes nothing
 -- Definitions assume nothing. The laws assume `Given`.
-use mathlib.Core.Path.{_≡_, refl, ap}
-use Prim.Native.Nat.{ℕ, zero, suc, _≤_}
-use native.Mathlib.Nat.{not-suc-le-zero, le-of-suc-le-suc}
+use Prim.Native.Nat.{ℕ}
 use mathlib.Core.Bool.{Bool, not}
 use mathlib.Core.List.{List, [], _∷_}
-use lib.ListN.{length, set}
 use lib.Dec.{T}
 use mir.Syntax.{Opd as Operand, Body, skip, seq, cond}
 use mir.Val.{vbool}
@@ -49,8 +45,3 @@ module _ {M : Type 1} {𝓤 : URA M} {H : Heap 𝓤} {A : Atoms 𝓤} {K : Type 
       → (T y → Seq K W Γ (runs C Λ E a (anyQ (afterSeq 𝓤 H (Wp 𝓤 H C Λ E b (post 𝓤 H q)) (post 𝓤 H q))))) → (T (not y) → Seq K W Γ (runs C Λ E b q))
       → Seq K W Γ (runs C Λ E (seq (cond c a skip) b) q)
   early t o held failed = first t $ branches t o held (λ z. skips t $ record { prf = failed z .prf })
-
-pub set-past : {X : Type 0} (l : List X) (i : ℕ) (a : X) → length l ≤ i → set l i a ≡ l
-set-past [] i a h = refl
-set-past (x ∷ xs) zero a h = absurd (not-suc-le-zero h)
-set-past {X} (x ∷ xs) (suc i) a h = ap {B = List X} (λ (r : List X). x ∷ r) (set-past xs i a (le-of-suc-le-suc h))

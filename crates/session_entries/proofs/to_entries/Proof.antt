@@ -2,9 +2,7 @@
 -- All that it knows of `moved_number`, `moved_rows` and `row_of` is that each meets its contract.
 -- Assumes nothing.
 use mathlib.Core.Path.{_≡_, refl, sym, ap, subst, _∙_}
-use Prim.Native.Nat.{ℕ, zero, suc, _<_, _≤_, _^_, _*_, _+_, _-_}
-use native.Mathlib.Nat.{add-zero, add-suc}
-use native.Mathlib.Omega.{arith}
+use Prim.Native.Nat.{ℕ, zero, suc, _<_, _≤_, _^_, _*_, _-_}
 use mathlib.Core.List.{[], _∷_, List}
 use mathlib.Core.WellFounded.{WellFounded, InvImage·wf}
 use lib.ListN.{length, length-set}
@@ -50,6 +48,7 @@ use denote.Triple.Clauses.{ensured, lasts}
 use Rattle.session.specs.Log.{Log, logOf}
 use Rattle.session_entries.specs.Entries.{noEntry, rowOf, withRows, entriesNumber, movedRows}
 use Rattle.session_entries.proofs.Refused.{row-has-room}
+use Rattle.session_entries.proofs.Turns.{one-more, same-number, row-fits, below-fits, next-fits, closer, none}
 use Rattle.session.specs.declared.Entry.{Entry}
 use Rattle.walks.proofs.Thin.{after, all-said, all-go}
 use Rattle.walks.proofs.While.{whiles}
@@ -84,27 +83,6 @@ Cnt 𝓤 H A mem run = tripleOf 𝓤 H A cnt.signature (cnt.spec 𝓤 H A mem ru
 
 abbrev Val′ : {M : Type 1} (𝓤 : URA M) (H : Heap 𝓤) (A : Atoms 𝓤) (mem : Memory → SProp 𝓤) (run : Routine → Fun 𝓤) → Contract 𝓤
 Val′ 𝓤 H A mem run = tripleOf 𝓤 H A val.signature (val.spec 𝓤 H A mem run)
-
-one-more : (i : ℕ) → i + 1 ≡ suc i
-one-more i = add-suc i zero ∙ ap suc (add-zero i)
-
-same-number : (i n : ℕ) → i ≤ n → n ≤ i → i ≡ n
-same-number i n l m = omega (arith, l, m)
-
-row-fits : (i n : ℕ) → i < n → n * 32 < 2 ^ 63 → i * 32 < 2 ^ 64
-row-fits i n l m = omega (arith, l, m)
-
-below-fits : (i n : ℕ) → i < n → n < 2 ^ 64 → i < 2 ^ 64
-below-fits i n l m = omega (arith, l, m)
-
-next-fits : (i n : ℕ) → i < n → n < 2 ^ 64 → i + 1 < 2 ^ 64
-next-fits i n l m = omega (arith, l, m)
-
-closer : (i n : ℕ) → i < n → n - suc i < n - i
-closer i n l = omega (arith, l)
-
-none : (n : ℕ) → 0 ≤ n
-none n = omega arith
 
 module _ {M : Type 1} (𝓤 : URA M) (H : Heap 𝓤) (A : Atoms 𝓤) (W : Given 𝓤 H A) (at-mem : Memory → SProp 𝓤) (run : Routine → Fun 𝓤)
     (κ : Lft) (κs : Lfts 6) (q : Share) (qs : Shares 6) (b o : ℕ) (γ : GName) (ys : List Entry) (kinds offsets lens digests changed answered : RefT (List ℕ)) where

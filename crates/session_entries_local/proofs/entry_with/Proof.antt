@@ -52,7 +52,8 @@ use Rattle.session.specs.Log.{Log, logOf}
 use Rattle.session_entries.specs.declared.EntryAnswer.{EntryAnswer}
 use Rattle.session_entries.specs.Entries.{noEntry, placeTest, entryAt, movedRows, entriesNumber, toEntries}
 use Rattle.session_entries_local.specs.Local.{blankLog, withNumber, unlessRefused}
-use Rattle.session_entries_local.proofs.Laws.{blank-length, as-long, with-law}
+use Rattle.session_entries.proofs.Correspond.{rows-length}
+use Rattle.session_entries_local.proofs.Laws.{blank-length, with-law}
 use Rattle.session_entries_local.proofs.Blank.{Full, all-of, blank-val, none-is, blank-is, room-of, big-lit}
 use Rattle.walks.proofs.Thin.{all-said, all-go}
 use Rattle.walks.proofs.Local.{lies-in, lies-out}
@@ -158,7 +159,7 @@ module _ {M : Type 1} (𝓤 : URA M) (H : Heap 𝓤) (A : Atoms 𝓤) (W : Given
   result = unlessRefused (withNumber at i n m) answer
 
   len₁ : length zs₁ ≡ 1024
-  len₁ = as-long all blankLog (movedRows m n) ∙ blank-length
+  len₁ = rows-length all blankLog (movedRows m n) ∙ blank-length
 
   len₂ : length zs₂ ≡ 1024
   len₂ = length-set zs₁ at e ∙ len₁

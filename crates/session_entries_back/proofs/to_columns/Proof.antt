@@ -1,9 +1,8 @@
--- `session_entries::to_columns` meets its contract: a walk of its MIR, by hand, with a loop (`walks`, While). The number and how many entries go over come from covered functions on the lengths. At the loop's head each column holds its field of the first i entries. A turn copies an entry, lends each column again for a lifetime of the call (`walks`, Again), calls `session::record`, and takes the columns back.
+-- `session_entries_back::to_columns` meets its contract: a walk of its MIR, by hand, with a loop (`walks`, While). The number and how many entries go over come from covered functions on the lengths. At the loop's head each column holds its field of the first i entries. A turn copies an entry, lends each column again for a lifetime of the call (`walks`, Again), calls `session::record`, and takes the columns back.
 -- All that it knows of `moved_number`, `moved_rows` and `session::record` is that each meets its contract.
 -- Assumes nothing.
 use mathlib.Core.Path.{_≡_, refl, sym, ap, subst, _∙_}
-use Prim.Native.Nat.{ℕ, zero, suc, _<_, _≤_, _^_, _*_, _+_, _-_}
-use native.Mathlib.Nat.{add-zero, add-suc}
+use Prim.Native.Nat.{ℕ, zero, suc, _<_, _≤_, _^_, _*_, _-_}
 use native.Mathlib.Omega.{arith}
 use mathlib.Core.List.{[], _∷_, List}
 use mathlib.Core.WellFounded.{WellFounded, InvImage·wf}
@@ -46,30 +45,31 @@ use denote.Triple.Table.{entered, cited}
 use denote.Triple.Walked.{says, Stays, stay-slice, goes-slice, walkOf, Walks, ends-at, walked, walk-meets}
 use denote.Triple.Clauses.{ensured, lasts}
 use Rattle.session.specs.Log.{Log, logOf}
 use Rattle.session_entries.specs.Entries.{noEntry, withEntries, columnsNumber, movedRows}
 use Rattle.session_entries.proofs.Refused.{rows-at-most}
+use Rattle.session_entries.proofs.Turns.{one-more, same-number, row-fits, below-fits, next-fits, closer, none}
 use Rattle.session.specs.declared.Entry.{Entry}
 use Rattle.walks.proofs.Again.{LentAgain, lends-again, comes-back}
 use Rattle.walks.proofs.Thin.{stay-said, goes-said}
 use Rattle.walks.proofs.While.{whiles}
 use Rattle.session.proofs.Entry as T
 use Rattle.session.proofs.Entry.Laws as T′
 use Rattle.session_entries.proofs.moved_number as num
 use Rattle.session_entries.proofs.moved_number.Symbol as num-def
 use Rattle.session_entries.proofs.moved_number.Symbol.{name as #num}
 use Rattle.session_entries.proofs.moved_number.Met as num-thm
 use Rattle.session_entries.proofs.moved_rows as cnt
 use Rattle.session_entries.proofs.moved_rows.Symbol as cnt-def
 use Rattle.session_entries.proofs.moved_rows.Symbol.{name as #cnt}
 use Rattle.session_entries.proofs.moved_rows.Met as cnt-thm
 use Rattle.session.proofs.record as val
 use Rattle.session.proofs.record.Symbol as val-def
 use Rattle.session.proofs.record.Symbol.{name as #val}
 use Rattle.session.proofs.record.Met as val-thm
-use Rattle.session_entries.proofs.to_columns.Key.{name as #f}
-use Rattle.session_entries.proofs.to_columns as f
-use Rattle.session_entries.proofs.to_columns.Statement as stated
-use Rattle.session_entries.proofs.to_columns.Code as code
+use Rattle.session_entries_back.proofs.to_columns.Key.{name as #f}
+use Rattle.session_entries_back.proofs.to_columns as f
+use Rattle.session_entries_back.proofs.to_columns.Statement as stated
+use Rattle.session_entries_back.proofs.to_columns.Code as code
 use denote.Exit.{yes}
 use denote.Signature.{shrSliceOf}
 
@@ -88,27 +88,6 @@ Val′ 𝓤 H A mem run = tripleOf 𝓤 H A val.signature (val.spec 𝓤 H A mem
 
 below-all : (i n k : ℕ) → i < n → n ≤ k → i < k
 below-all i n k l h = omega (arith, l, h)
-
-one-more : (i : ℕ) → i + 1 ≡ suc i
-one-more i = add-suc i zero ∙ ap suc (add-zero i)
-
-same-number : (i n : ℕ) → i ≤ n → n ≤ i → i ≡ n
-same-number i n l m = omega (arith, l, m)
-
-row-fits : (i n : ℕ) → i < n → n * 32 < 2 ^ 63 → i * 32 < 2 ^ 64
-row-fits i n l m = omega (arith, l, m)
-
-below-fits : (i n : ℕ) → i < n → n < 2 ^ 64 → i < 2 ^ 64
-below-fits i n l m = omega (arith, l, m)
-
-next-fits : (i n : ℕ) → i < n → n < 2 ^ 64 → i + 1 < 2 ^ 64
-next-fits i n l m = omega (arith, l, m)
-
-closer : (i n : ℕ) → i < n → n - suc i < n - i
-closer i n l = omega (arith, l)
-
-none : (n : ℕ) → 0 ≤ n
-none n = omega arith
 
 -- a column is as long as it was
 as-long-kinds : (ys : List Entry) (l : Log) (i : ℕ) → length (withEntries ys l i .kinds) ≡ length (l .kinds)
