@@ -34,16 +34,17 @@ use Rattle.sweeps.specs.Sweep.{toldBy}
 use Rattle.sweeps.specs.Decided.{rangeBehind}
 use Rattle.harness.specs.declared.Opened.{Opened}
 use Rattle.harness.specs.declared.Opened.the-variants.{Runs, NotSwept}
+use Rattle.harness.specs.declared.Placed.{Placed}
 use Rattle.harness.specs.declared.Placed.the-variants.{Run, NoRun}
 use Rattle.harness.specs.Opening.{openCount, openPoints, openLeft, openedWith, openCall}
-use Rattle.harness.specs.Places.{armedBy, placedAt}
+use Rattle.harness.specs.Places.{armedBy, freeBy, placedAt}
 
 -- ---- the run at a place
 
 module _ (place : ℕ) (g : Geometry) (ks os ls : List ℕ) where
-  pub place-first : place ≡ 0 → Run Nothing ≡ placedAt place g ks os ls
+  pub place-first : place ≡ 0 → (c : Counted) → c ≡ counted g ks os ls → (r : Placed) → r ≡ freeBy c → r ≡ placedAt place g ks os ls
   unfolding placedAt
-  place-first e = rw e
+  place-first e c q r p = rw e (p ∙ ap freeBy q)
 
   found-at : (n : ℕ) → n ≡ place → (place ≡ 0 → ⊥) → armedBy (found g ks os ls (place - 1)) ≡ placedAt n g ks os ls
   unfolding placedAt

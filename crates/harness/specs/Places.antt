@@ -2,9 +2,11 @@
 use mathlib.Core.List.{List}
 use Prim.Native.Nat.{ℕ, zero, suc}
 use Rattle.storage.specs.declared.Geometry.{Geometry}
+use Rattle.inject.specs.declared.Counted.{Counted}
+use Rattle.inject.specs.declared.Counted.the-variants.{Points, NotCounted}
 use Rattle.inject.specs.declared.Found.{Found}
 use Rattle.inject.specs.declared.Found.the-variants.{Point, NotFound}
-use Rattle.inject.specs.Answers.{found}
+use Rattle.inject.specs.Answers.{counted, found}
 use Rattle.session.specs.declared.Armed.the-variants.{Nothing, At}
 use Rattle.harness.specs.declared.Placed.{Placed}
 use Rattle.harness.specs.declared.Placed.the-variants.{Run, NoRun}
@@ -14,7 +16,12 @@ abbrev pub armedBy : Found → Placed
 armedBy (Point injection) = Run (At injection)
 armedBy (NotFound number) = NoRun number
 
+-- nothing is armed in the fault-free run; operations that are none are refused there too
+abbrev pub freeBy : Counted → Placed
+freeBy (Points points) = Run Nothing
+freeBy (NotCounted number) = NoRun number
+
 -- what is armed in the run at a place
 unfoldable pub placedAt : (place : ℕ) → Geometry → (kinds offsets lens : List ℕ) → Placed
-placedAt zero g kinds offsets lens = Run Nothing
+placedAt zero g kinds offsets lens = freeBy (counted g kinds offsets lens)
 placedAt (suc n) g kinds offsets lens = armedBy (found g kinds offsets lens n)

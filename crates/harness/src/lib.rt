@@ -19,7 +19,7 @@ ghost use Rattle.script_rows.specs.Ready.{Ready};
 ghost use Rattle.sweeps.specs.Sweep.{ruleOf, toldBy};
 ghost use Rattle.sweeps.specs.Decided.{rangeBehind};
 ghost use Rattle.harness.specs.Opening.{openPoints, openLeft, openCall};
-ghost use Rattle.harness.specs.Places.{placedAt};
+ghost use Rattle.harness.specs.Places.{freeBy, placedAt};
 ghost use Rattle.harness.specs.Inner.{isBehind, opsIn};
 
 // What opening a sweep answers: how many operations the fault-free run recorded, and how many crash points they have; or the
@@ -219,6 +219,16 @@ pub fn open_sweep(
 
 // ---- the runs in order
 
+// What is armed in run 0: nothing, where the operations were counted.
+fn free_run(counted: Counted) -> Placed
+    ensures { λ r. ⌜ r ≡ freeBy counted ⌝ }
+{
+    match counted {
+        Counted::Points(_) => Placed::Run(Armed::Nothing),
+        Counted::NotCounted(number) => Placed::NoRun(number),
+    }
+}
+
 // What is armed in the run at a place: nothing in run 0, then the crash points of the operations, in order.
 pub fn point_at(
     place: u64,
@@ -230,7 +240,8 @@ pub fn point_at(
     ensures { λ r. ⌜ r ≡ placedAt place geometry (now (kinds .entry)) (now (offsets .entry)) (now (lens .entry)) ⌝ }
 {
     if place == 0 {
-        return Placed::Run(Armed::Nothing);
+        let counted = inject::injection_count(kinds, offsets, lens, geometry);
+        return free_run(counted);
     }
     let found = inject::injection_at(kinds, offsets, lens, geometry, place - 1);
     match found {

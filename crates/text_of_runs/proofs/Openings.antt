@@ -35,7 +35,7 @@ use Rattle.harness.specs.declared.Opened.{Opened}
 use Rattle.harness.specs.declared.Opened.the-variants.{Runs, NotSwept}
 use Rattle.harness.specs.declared.Placed.the-variants.{Run}
 use Rattle.harness.specs.Opening.{openPoints, OpenLeft, openLeft, openedWith, openCall}
-use Rattle.harness.specs.Places.{armedBy, placedAt}
+use Rattle.harness.specs.Places.{armedBy, freeBy, placedAt}
 use Rattle.text_of_runs.specs.Steady.{Steady}
 use Rattle.text_of_runs.specs.Lent.{Desk}
 use Rattle.text_of_runs.proofs.Codes.{take-known, kinds-known}
@@ -133,7 +133,7 @@ module _ (h : Head) (xs : List Call) (passes : geometryTest (h .geometry) ≡ 0)
 
   pub placed-is : (place : ℕ) → place ≤ length points → placedAt place (h .geometry) ks os ls ≡ Run (armedAt place)
   unfolding placedAt
-  placed-is zero b = refl
+  placed-is zero b = ap freeBy counted-is
   placed-is (suc i) b = ap armedBy (found-is i b)
 
   -- the run of the sweep at that place is the script's run with it

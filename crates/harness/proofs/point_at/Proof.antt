@@ -4,8 +4,16 @@ use borrow.Author.Needs.{needs}
 use Rattle.harness.proofs.point_at.Statement.{statement}
 use Rattle.harness.proofs.point_at.Tie as tie
 
+injection-count-requires : tie.Need-injection-count-requires
+injection-count-requires c κs = search needs
+
+free-run-requires : tie.Need-free-run-requires
+free-run-requires c κs = search needs
+
 returns : tie.Need-returns
-returns c = place-first _ _ _ _ _ (c .if1 .taken)
+returns c =
+    let s = c .before .before .before .before .before .before in
+    place-first (s .args .place) (s .args .geometry) (s .args .kinds .now) (s .args .offsets .now) (s .args .lens .now) (c .before .before .if1 .taken) _ (c .before .injection-count .ensures) _ (c .free-run .ensures)
 
 sub-injection-at : tie.Need-sub-injection-at
 sub-injection-at c = search needs
@@ -29,6 +37,8 @@ pub point-at-spec : {M : Type 1} → statement M
 point-at-spec =
     tie.close
     (tie.spec
+    injection-count-requires
+    free-run-requires
     returns
     sub-injection-at
     injection-at-requires
