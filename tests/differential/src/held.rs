@@ -1,7 +1,8 @@
 //! The layer `held` against waymaker-fault's session.rs, `injected` of `Harness`: a list of steps is run twice through the proved
 //! session, without a fault and with an injection armed, and `held_to` says what is given: the run, the fault-free run
-//! relabelled, or 25 or 26. The Rust's side is `Harness::run_one`. A writer that does the same each time is never answered 26,
-//! so most writers here do something else where an injection is armed.
+//! relabelled, or 25 or 26. The Rust's side is `Harness::run_one`. A writer that carries on and makes the same calls each time is
+//! not answered 26, and one that stops at an error only for a range that it no longer marks; so most writers here do something
+//! else where an injection is armed.
 //!
 //! The Rust has no columns, so what refuses them (12, 13), and columns that no session leaves, are held against document 01's
 //! rule, written out below.
