@@ -20,6 +20,9 @@ use waymaker_fault::model::{Durability, Ledger, RecordId};
 use waymaker_fault::session::{Harness, HarnessError, Run, Session};
 use waymaker_flash::storage::{Geometry, StableStorage};
 
+#[path = "held.rs"]
+pub mod held;
+
 pub const LAYER: Layer = Layer { name: "ledger", compare, bench, sample };
 
 // crates/ledger_exported/src/lib.rt, and the marks of crates/session_marks_exported/src/lib.rt. Nothing proves that these
@@ -50,7 +53,7 @@ unsafe extern "C" {
 
 // ---- runs
 
-#[derive(Clone, Debug)]
+#[derive(Clone, Debug, PartialEq)]
 enum Step {
     Call(Call),
     Begin(u32),
@@ -376,9 +379,8 @@ fn compare(comparison: &mut Comparison) -> Result<(), Difference> {
     seen.all_kinds()
 }
 
-/// Every list of up to four of these steps, without a fault and with every crash point that the Rust lists for it, with and
-/// without a retry; with those built by hand up to three steps.
-fn short(comparison: &mut Comparison, rust: &impl Fn(&Case) -> Answer) -> Result<(), Difference> {
+/// Every list of up to `longest` of these steps.
+fn lists(longest: usize) -> Vec<Vec<Step>> {
     let steps = [
         Step::Begin(1),
         Step::Begin(2),
@@ -393,7 +395,7 @@ fn short(comparison: &mut Comparison, rust: &impl Fn(&Case) -> Answer) -> Result
     ];
     let mut lists: Vec<Vec<Step>> = vec![Vec::new()];
     let mut from = 0;
-    for _ in 0..4 {
+    for _ in 0..longest {
         let end = lists.len();
         for place in from..end {
             for step in &steps {
@@ -404,7 +406,13 @@ fn short(comparison: &mut Comparison, rust: &impl Fn(&Case) -> Answer) -> Result
         }
         from = end;
     }
-    for list in lists {
+    lists
+}
+
+/// Every list of up to four steps, without a fault and with every crash point that the Rust lists for it, with and without a
+/// retry; with those built by hand up to three steps.
+fn short(comparison: &mut Comparison, rust: &impl Fn(&Case) -> Answer) -> Result<(), Difference> {
+    for list in lists(4) {
         let case = Case { units: [8, 4, 2, 1], rejected: false, steps: list, armed: None, retry: false };
         comparison.same(&case, rust, ours)?;
         let mut points = listed(&case);

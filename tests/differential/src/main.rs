@@ -28,6 +28,7 @@ const LAYERS: &[Layer] = &[
     script::LAYER,
     session::LAYER,
     session::ledger::LAYER,
+    session::ledger::held::LAYER,
     session::replay::LAYER,
     programs::LAYER,
 ];

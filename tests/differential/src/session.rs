@@ -60,7 +60,7 @@ unsafe extern "C" {
     ) -> u32;
 }
 
-#[derive(Clone, Debug)]
+#[derive(Clone, Debug, PartialEq)]
 enum Call {
     Program(u32, Vec<u8>),
     Erase(u32, u32),

@@ -1,0 +1,2 @@
+-- The numbers that cross. Definitions only; assumes nothing.
+pub mod Codes
