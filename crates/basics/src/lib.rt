@@ -1,7 +1,8 @@
-// What every layer would else write again: which of two tests refuses, and a store into a lent column that no index can make
-// go wrong. The definitions and laws that the other crates cite are in specs/ and proofs/.
+// What every layer would else write again: which of two tests refuses, the lower of two numbers, and a store into a lent column
+// that no index can make go wrong. The definitions and laws that the other crates cite are in specs/ and proofs/.
 ghost use mathlib.Core.Path.{_≡_};
 ghost use mathlib.Core.List.{[], _∷_};
+ghost use Prim.Native.Nat.{_≤_, min};
 ghost use lib.ListN.{set};
 ghost use Rattle.basics.specs.Tests.{firstOf};
 
@@ -10,6 +11,13 @@ pub fn first_of(number: u32, next: u32) -> u32
     ensures { λ r. ⌜ r ≡ firstOf (number ∷ next ∷ []) ⌝ }
 {
     if number != 0 { number } else { next }
+}
+
+// The lower of two numbers: as many of a column's rows as there are.
+pub fn lower(a: usize, b: usize) -> usize
+    ensures { λ r. ⌜ (r ≡ min a b) × (r ≤ a) × (r ≤ b) ⌝ }
+{
+    if a < b { a } else { b }
 }
 
 // Stores `byte` at `at` in a column of bytes. Past the column's end nothing is stored, and nothing changes.

@@ -25,7 +25,7 @@ use Rattle.script.specs.Calls.{Call}
 use Rattle.script.specs.Columns.{Columns}
 use Rattle.script.specs.Held.{callsIn}
 use Rattle.script_rows.specs.Ready.{Ready}
-use Rattle.script_rows.proofs.Scanned.{take-lower}
+use Rattle.basics.proofs.Lists.{take-lower}
 use Rattle.script_rows.proofs.Numbers.{lengths-known, ready}
 use Rattle.writer.specs.declared.Ran.{Ran}
 use Rattle.writer.specs.declared.Ran.the-variants

@@ -106,13 +106,6 @@ fn range_behind(
     false
 }
 
-// The lower of two numbers.
-fn lower(a: usize, b: usize) -> usize
-    ensures { λ r. ⌜ (r ≡ min a b) × (r ≤ a) × (r ≤ b) ⌝ }
-{
-    if a < b { a } else { b }
-}
-
 // What a fault-free run that did not fail opens: its crash points, or 26.
 fn open_points(
     head: Head,
@@ -136,7 +129,7 @@ fn open_points(
     if !carries & behind {
         return Opened::NotSwept(26);
     }
-    let n = lower(operations, ops.len());
+    let n = basics::lower(operations, ops.len());
     let geometry = head.geometry;
     let counted = inject::injection_count(&ops[..n], &spans[..n], &sizes[..n], geometry);
     match counted {

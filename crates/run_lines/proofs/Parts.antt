@@ -18,6 +18,7 @@ use lib.Dec.{eqb, leb}
 use borrow.Author.Tests.{eqb-true}
 use Rattle.basics.specs.Tests.{unless, firstOf}
 use Rattle.basics.proofs.Tests.{firstOf-zero}
+use Rattle.basics.proofs.Lists.{take-few}
 use Rattle.landing.specs.declared.Stop.{Stop}
 use Rattle.model.specs.declared.ListAnswer.{ListAnswer}
 use Rattle.model.specs.declared.ListAnswer.the-variants.{ListRefused, ListIs}
@@ -32,7 +33,6 @@ use Rattle.session.specs.Log.{Log, logOf, Marks, marksOf}
 use Rattle.ledger.specs.Ledger.{Entered, enteredOf}
 use Rattle.script.specs.declared.Head.{Head}
 use Rattle.script.specs.Columns.{Columns}
-use Rattle.script_rows.proofs.Scanned.{take-lower}
 use Rattle.lines.specs.declared.Line.{Line}
 use Rattle.lines.specs.declared.Line.the-variants.{NotWritten}
 use Rattle.lines.specs.Lines.{suggested, judgedLine}
@@ -51,10 +51,6 @@ use Rattle.run_lines.specs.RunLine.{judgedOf, historyTest, judgePut, lin
 -- a line as it was put
 abbrev pub lined : Line → (out : List ℕ) → Put
 lined r out = record { reply = r; out = out }
-
--- as many of a column's rows as there are
-take-few : (xs : List ℕ) (size count n : ℕ) → length xs ≡ size → n ≡ min count size → take n xs ≡ take count xs
-take-few xs size count n l m = ap (λ (j : ℕ). take j xs) (m ∙ ap (min count) (sym l)) ∙ take-lower count xs
 
 -- ---- the line of `judge`
 

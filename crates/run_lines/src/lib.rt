@@ -30,13 +30,6 @@ pub enum RunLine {
     NoLine(u32),
 }
 
-// The lower of two numbers.
-fn lower(a: usize, b: usize) -> usize
-    ensures { λ r. ⌜ (r ≡ min a b) × (r ≤ a) × (r ≤ b) ⌝ }
-{
-    if a < b { a } else { b }
-}
-
 // ---- the line of a ledger
 
 // The verdict on a history, and the history, as a line. Nothing is dispatched, and there is no bank count.
@@ -72,7 +65,7 @@ fn judged_line(
     match listed {
         ListAnswer::ListRefused(number) => Line::NotWritten(number),
         ListAnswer::ListIs(count) => {
-            let kept = lower(count, 512);
+            let kept = basics::lower(count, 512);
             verdict_line(place, ids, states, torn, &history[..kept], out, at)
         }
     }
@@ -125,7 +118,7 @@ fn ledger_line(
     requires { ⌜ (length (now ids) ≡ 512) × (length (now states) ≡ 512) × (length (now torn) ≡ 512) ⌝ }
     ensures { λ r. ⌜ runPut r (now (out .exit)) ≡ lineAs (linePut judged place armed stop operations (rowsTo count (enteredOf (now (ids .entry)) (now (states .entry)) (now (torn .entry)))) at (now (out .entry))) ⌝ }
 {
-    let n = lower(count, 512);
+    let n = basics::lower(count, 512);
     let line = line_of(
         judged,
         place,
@@ -173,7 +166,7 @@ fn run_on(
     ensures { λ r. ⌜ runEnd r (enteredOf (now (ids .exit)) (now (states .exit)) (now (torn .exit))) ≡ endOf (runAtCall head armed rows (columns (now (kinds .entry)) (now (firsts .entry)) (now (seconds .entry)) (now (thirds .entry)) (now (starts .entry)) (now (pool .entry))) (take (head .geometry .capacity) (now (media .entry))) (take (head .geometry .capacity) (now (copy .entry))) (logOf (now (ops .entry)) (now (spans .entry)) (now (sizes .entry)) (now (digests .entry)) (now (changed .entry)) (now (answered .entry))) (marksOf (now (marks .entry)) (now (named .entry)) (now (places .entry))) (enteredOf (now (ids .entry)) (now (states .entry)) (now (torn .entry)))) ⌝ }
 {
     let geometry = head.geometry;
-    let capacity = lower(geometry.capacity as usize, 16384);
+    let capacity = basics::lower(geometry.capacity as usize, 16384);
     harness_runs::run_at(
         head,
         armed,

@@ -5,12 +5,12 @@ use mathlib.Core.List.{List, [], _∷_}
 use Prim.Native.Nat.{ℕ, zero, suc, _+_, _≤_, _<_, min}
 use native.Mathlib.Omega.{arith}
 use lib.ListN.{length, getD, take, drop}
-use lib.Seq.{take-nil}
 use lib.Dec.{eqb, ltb}
 use borrow.Author.Tests.{eqb-true, not-true, not-false}
 use Rattle.basics.specs.Tests.{unless, refuseIf, firstOf}
 use Rattle.basics.proofs.Tests.{firstOf-pass, firstOf-stop}
 use Rattle.basics.proofs.Scans.{at-step, at-end}
+use Rattle.basics.proofs.Lists.{take-lower}
 use Rattle.storage.specs.declared.Geometry.{Geometry}
 use Rattle.storage.specs.Geometry.{geometryTest}
 use Rattle.device.proofs.Pairs.{false-left, false-right}
@@ -78,21 +78,6 @@ module _ (g : Geometry) (media copy : ℕ) (uneven : Bool) (units sizes : ℕ) (
     pub length-even : sizes ≡ 0 → uneven ≡ false → 0 ≡ runLengths g media copy uneven
     unfolding runLengths refuseIf firstOf
     length-even z e = simp (sym u ∙ none, sym s ∙ z, e)
-
--- as many as there are
-pub take-lower : (rows : ℕ) (xs : List ℕ) → take (min rows (length xs)) xs ≡ take rows xs
-take-lower zero xs = ap (λ (n : ℕ). take n xs) none
-  where
-    none : min 0 (length xs) ≡ 0
-    none = omega arith
-take-lower (suc rows) [] = ap (λ (n : ℕ). take n []) none ∙ sym (take-nil (suc rows))
-  where
-    none : min (suc rows) 0 ≡ 0
-    none = omega arith
-take-lower (suc rows) (x ∷ xs) = ap (λ (n : ℕ). take n (x ∷ xs)) more ∙ ap {B = List ℕ} (λ (l : List ℕ). x ∷ l) (take-lower rows xs)
-  where
-    more : min (suc rows) (suc (length xs)) ≡ suc (min rows (length xs))
-    more = omega arith
 
 module _ (rows : ℕ) (k : Columns) (short : Bool) (n : ℕ) (m : n ≡ min rows (length (k .kinds))) (letters : Bool) (a : letters ≡ allLetters (take n (k .kinds)))
     (es : length (k .seconds) ≡ length (k .kinds)) (et : length (k .starts) ≡ length (k .kinds)) where

@@ -76,13 +76,6 @@ fn run_lengths(geometry: Geometry, media: usize, copy: usize, uneven: bool) -> u
     if uneven { 12 } else { 0 }
 }
 
-// The lower of two numbers.
-fn lower(a: usize, b: usize) -> usize
-    ensures { λ r. ⌜ (r ≡ min a b) × (r ≤ a) × (r ≤ b) ⌝ }
-{
-    if a < b { a } else { b }
-}
-
 // The number of what the rows counted hold, in columns of one length. `short` tells whether a session's columns are too short.
 fn run_contents(
     rows: usize,
@@ -97,7 +90,7 @@ fn run_contents(
     requires { ⌜ (length (now seconds) ≡ length (now kinds)) × (length (now starts) ≡ length (now kinds)) ⌝ }
     ensures { λ r. ⌜ r ≡ runContents rows (columns (now (kinds .entry)) (now (firsts .entry)) (now (seconds .entry)) (now (thirds .entry)) (now (starts .entry)) (now (pool .entry))) short ⌝ }
 {
-    let n = lower(rows, kinds.len());
+    let n = basics::lower(rows, kinds.len());
     if !all_letters(&kinds[..n]) {
         return 12;
     }

@@ -15,12 +15,12 @@ use native.Mathlib.Omega.{arith}
 use lib.ListN.{length, take, drop, replicate}
 use lib.Dec.{leb}
 use borrow.Author.Tests.{lt-ltb, le-ltb, eq-eqb, ne-eqb, leb-true, leb-false}
+use Rattle.basics.proofs.Lists.{take-few}
 use Rattle.session.specs.Log.{Log, logOf, Marks, marksOf}
 use Rattle.script.specs.declared.Head.{Head}
 use Rattle.script.specs.declared.ReadScript.{ReadScript}
 use Rattle.script.specs.declared.ReadScript.the-variants.{Read, Refused}
 use Rattle.script.specs.Columns.{Columns, columns, After, after, readInto}
-use Rattle.script_rows.proofs.Scanned.{take-lower}
 use Rattle.lines.specs.declared.Line.{Line}
 use Rattle.lines.specs.declared.Line.the-variants.{Past, NotWritten}
 use Rattle.lines.specs.Lines.{runsLine, refusedText}
@@ -125,9 +125,6 @@ module _ (number line from : ℕ) (out : List ℕ) where
     refused-some next q = ap (λ (x : Line). partLine x new) (sym q) ∙ refused-is
 
 -- ---- the fault-free run
-
-take-few : (xs : List ℕ) (size count n : ℕ) → length xs ≡ size → n ≡ min count size → take n xs ≡ take count xs
-take-few xs size count n l m = ap (λ (j : ℕ). take j xs) (m ∙ ap (min count) (sym l)) ∙ take-lower count xs
 
 pub open-part : (h : Head) (rows : ℕ) (k : Columns) (media copy : List ℕ) (l : Log) (m : Marks) → length media ≡ 16384 → length copy ≡ 16384
     → (n : ℕ) → n ≡ min (h .geometry .capacity) 16384 → (r : Opened) (media₁ copy₁ : List ℕ) (l₁ : Log) (m₁ : Marks)

@@ -31,13 +31,6 @@ struct Filled {
     at: usize,
 }
 
-// The lower of two numbers.
-fn lower(a: usize, b: usize) -> usize
-    ensures { λ r. ⌜ (r ≡ min a b) × (r ≤ a) × (r ≤ b) ⌝ }
-{
-    if a < b { a } else { b }
-}
-
 // ---- the lines of a sweep
 
 // The lines of runs from a place on, as many as there is room for.
@@ -239,7 +232,7 @@ fn open_on(
     ensures { λ r. ⌜ openEnd r (now (ops .exit)) (now (spans .exit)) (now (sizes .exit)) ≡ endOfOpen (openCall head rows (columns (now (kinds .entry)) (now (firsts .entry)) (now (seconds .entry)) (now (thirds .entry)) (now (starts .entry)) (now (pool .entry))) (take (head .geometry .capacity) (now (media .entry))) (take (head .geometry .capacity) (now (copy .entry))) (logOf (now (ops .entry)) (now (spans .entry)) (now (sizes .entry)) (now (digests .entry)) (now (changed .entry)) (now (answered .entry))) (marksOf (now (marks .entry)) (now (named .entry)) (now (places .entry)))) ⌝ }
 {
     let geometry = head.geometry;
-    let capacity = lower(geometry.capacity as usize, 16384);
+    let capacity = basics::lower(geometry.capacity as usize, 16384);
     harness::open_sweep(
         head,
         rows,
@@ -371,7 +364,7 @@ fn swept_part(
     match opened {
         Opened::NotSwept(number) => refused_part(number, 0, from, out),
         Opened::Runs(operations, points) => {
-            let n = lower(operations, 1024);
+            let n = basics::lower(operations, 1024);
             let runs = runs_of(points);
             runs_part(
                 judged,
