@@ -36,7 +36,8 @@ const LAYERS: &[Layer] = &[
 /// A sample that is no layer's, by its name.
 type Sample = (&'static str, fn() -> String);
 
-const SAMPLES: [Sample; 2] = [("sweep", programs::sample_sweep), ("judge", programs::sample_judge)];
+const SAMPLES: [Sample; 3] =
+    [("sweep", programs::sample_sweep), ("judge", programs::sample_judge), ("parts", programs::sample_parts)];
 
 /// Random inputs to each layer, where the caller does not say how many.
 const SIZE: u64 = 1_000_000;
@@ -155,7 +156,7 @@ fn read_words(mut given: impl Iterator<Item = String>) -> Result<Words, String> 
     }
     if words.layers.is_empty() && words.samples.is_empty() {
         if let Task::Sample = words.task {
-            return Err(format!("sample is followed by a layer: {}, or by sweep or judge", names()));
+            return Err(format!("sample is followed by a layer: {}, or by sweep, judge or parts", names()));
         }
         words.layers.extend(LAYERS);
     }

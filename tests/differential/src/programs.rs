@@ -839,3 +839,39 @@ fn sample_of(program: Program) -> String {
     }
     found
 }
+
+// ---- the sample that crates/part_cases replays
+
+/// Parts of the Rust's text, from each line on, for buffers of several lengths.
+pub fn sample_parts() -> String {
+    let scripts: [&[u8]; 2] = [b"G\t4\t4\t1\t1\ta\ts\nB\t7\nP\t0\t00\nS\nN\n", b"G\t4\t4\t1\t1\ta\ts\nX\n"];
+    let mut sample = String::new();
+    for script in scripts {
+        for room in [0, 5, 8, 17, 40, 256] {
+            for from in 0..14 {
+                for program in [Program::Sweep, Program::Judge] {
+                    let text = printed(program, &bench::sweep(script));
+                    let text = str::from_utf8(&text).expect("letters and digits");
+                    sample += &format!("{} {room} {from}", program.name());
+                    sample += &part(text, room, from);
+                }
+            }
+        }
+    }
+    sample
+}
+
+/// As many whole lines as there is room for.
+fn part(text: &str, room: usize, from: usize) -> String {
+    let lines: Vec<&str> = text.split_inclusive('\n').skip(from).collect();
+    let mut bytes = String::new();
+    let mut taken = 0;
+    while taken < lines.len() && bytes.len() + lines[taken].len() <= room {
+        bytes += lines[taken];
+        taken += 1;
+    }
+    if taken == 0 && !lines.is_empty() {
+        return " refused 13\n".to_string();
+    }
+    format!(" {taken} {} {}\n{bytes}", bytes.len(), lines.len() - taken)
+}
