@@ -1,23 +1,19 @@
--- A sweep opened, and the run at a place, from their parts. Assumes nothing.
+-- A sweep opened, from its parts. Assumes nothing.
 use mathlib.Core.Path.{_≡_, refl, sym, ap, _∙_}
 use mathlib.Core.Bool.{Bool, true, false, not, _&&_, _||_}
 use mathlib.Core.List.{List}
-use Prim.Native.Nat.{ℕ, zero, suc, _-_, min}
+use Prim.Native.Nat.{ℕ, zero, suc, min}
 use native.Mathlib.Omega.{arith}
 use lib.ListN.{length, take}
 use lib.Dec.{eqb}
 use borrow.Author.Tests.{eqb-true, ne-eqb, not-false}
-use Rattle.storage.specs.declared.Geometry.{Geometry}
 use Rattle.device.proofs.Pairs.{false-left, false-right}
 use Rattle.inject.specs.declared.Counted.{Counted}
 use Rattle.inject.specs.declared.Counted.the-variants.{Points, NotCounted}
-use Rattle.inject.specs.declared.Found.{Found}
-use Rattle.inject.specs.declared.Found.the-variants.{Point, NotFound}
-use Rattle.inject.specs.declared.Injection.{Injection}
-use Rattle.inject.specs.Answers.{counted, found}
+use Rattle.inject.specs.Answers.{counted}
 use Rattle.session.specs.declared.Counters.{Counters}
 use Rattle.session.specs.declared.Told.{Told}
-use Rattle.session.specs.declared.Armed.the-variants.{Nothing, At}
+use Rattle.session.specs.declared.Armed.the-variants.{Nothing}
 use Rattle.session.specs.Log.{Log, Marks}
 use Rattle.session.specs.Tests.{logUnevenOf, marksUnevenOf, logShort, marksShort}
 use Rattle.script.specs.declared.Head.{Head}
@@ -34,31 +30,7 @@ use Rattle.sweeps.specs.Sweep.{toldBy}
 use Rattle.sweeps.specs.Decided.{rangeBehind}
 use Rattle.harness.specs.declared.Opened.{Opened}
 use Rattle.harness.specs.declared.Opened.the-variants.{Runs, NotSwept}
-use Rattle.harness.specs.declared.Placed.{Placed}
-use Rattle.harness.specs.declared.Placed.the-variants.{Run, NoRun}
 use Rattle.harness.specs.Opening.{openCount, openPoints, openLeft, openedWith, openCall}
-use Rattle.harness.specs.Places.{armedBy, freeBy, placedAt}
-
--- ---- the run at a place
-
-module _ (place : ℕ) (g : Geometry) (ks os ls : List ℕ) where
-  pub place-first : place ≡ 0 → (c : Counted) → c ≡ counted g ks os ls → (r : Placed) → r ≡ freeBy c → r ≡ placedAt place g ks os ls
-  unfolding placedAt
-  place-first e c q r p = rw e (p ∙ ap freeBy q)
-
-  found-at : (n : ℕ) → n ≡ place → (place ≡ 0 → ⊥) → armedBy (found g ks os ls (place - 1)) ≡ placedAt n g ks os ls
-  unfolding placedAt
-  found-at zero e h = absurd (h (sym e))
-  found-at (suc n) e h =
-      let less : place - 1 ≡ n = omega arith in
-      ap (λ (m : ℕ). armedBy (found g ks os ls m)) less
-
-  module _ (h : place ≡ 0 → ⊥) (f : Found) (e : f ≡ found g ks os ls (place - 1)) where
-    pub place-found : (j : Injection) → f ≡ Point j → Run (At j) ≡ placedAt place g ks os ls
-    place-found j p = ap armedBy (sym p ∙ e) ∙ found-at place refl h
-
-    pub place-none : (n : ℕ) → f ≡ NotFound n → NoRun n ≡ placedAt place g ks os ls
-    place-none n p = ap armedBy (sym p ∙ e) ∙ found-at place refl h
 
 -- ---- the crash points of the fault-free run
 

@@ -1,13 +1,9 @@
 // A sweep, opened: the fault-free run of a script's rows, which tells how many crash points there are or why there is no
-// sweep, and what is armed in each run. It follows `Harness` in waymaker-fault's session.rs, with a script's rows for its
-// closure. `harness_runs` has the other runs.
-use device::OneWayBits;
+// sweep. It follows `Harness` in waymaker-fault's session.rs, with a script's rows for its closure. `armed_runs` has what is
+// armed in each run, and `harness_runs` the run.
 use inject::Counted;
-use inject::Found;
 use script::Head;
 use session::Armed;
-use session::Told;
-use storage::Geometry;
 use writer::Ran;
 ghost use mathlib.Core.Path.{_≡_};
 ghost use Prim.Native.Nat.{_≤_, min};
@@ -16,10 +12,8 @@ ghost use Rattle.session.specs.Log.{logOf, marksOf};
 ghost use Rattle.script.specs.Columns.{columns};
 ghost use Rattle.script.specs.Held.{callsIn};
 ghost use Rattle.script_rows.specs.Ready.{Ready};
-ghost use Rattle.sweeps.specs.Sweep.{ruleOf, toldBy};
 ghost use Rattle.sweeps.specs.Decided.{rangeBehind};
 ghost use Rattle.harness.specs.Opening.{openPoints, openLeft, openCall};
-ghost use Rattle.harness.specs.Places.{freeBy, placedAt};
 ghost use Rattle.harness.specs.Inner.{isBehind, opsIn};
 
 // What opening a sweep answers: how many operations the fault-free run recorded, and how many crash points they have; or the
@@ -27,37 +21,6 @@ ghost use Rattle.harness.specs.Inner.{isBehind, opsIn};
 pub enum Opened {
     Runs(usize, u64),
     NotSwept(u32),
-}
-
-// What is armed in the run at a place; or the number that refuses the place.
-pub enum Placed {
-    Run(Armed),
-    NoRun(u32),
-}
-
-// ---- what a session is told
-
-fn rule_of(rejected: bool) -> OneWayBits
-    ensures { λ r. ⌜ r ≡ ruleOf rejected ⌝ }
-{
-    if rejected {
-        OneWayBits::Rejected
-    } else {
-        OneWayBits::Absorbed
-    }
-}
-
-// Line 1 and at most one injection.
-pub fn told_by(head: Head, armed: Armed) -> Told
-    ensures { λ r. ⌜ r ≡ toldBy head armed ⌝ }
-{
-    let geometry = head.geometry;
-    let bits = rule_of(head.rejected);
-    Told {
-        geometry,
-        bits,
-        armed,
-    }
 }
 
 // ---- the fault-free run
@@ -162,7 +125,7 @@ pub fn open_sweep(
 ) -> Opened
     ensures { λ r. ⌜ openLeft r (now (media .exit)) (now (copy .exit)) (logOf (now (ops .exit)) (now (spans .exit)) (now (sizes .exit)) (now (digests .exit)) (now (changed .exit)) (now (answered .exit))) (marksOf (now (marks .exit)) (now (named .exit)) (now (places .exit))) ≡ openCall head rows (columns (now (kinds .entry)) (now (firsts .entry)) (now (seconds .entry)) (now (thirds .entry)) (now (starts .entry)) (now (pool .entry))) (now (media .entry)) (now (copy .entry)) (logOf (now (ops .entry)) (now (spans .entry)) (now (sizes .entry)) (now (digests .entry)) (now (changed .entry)) (now (answered .entry))) (marksOf (now (marks .entry)) (now (named .entry)) (now (places .entry))) ⌝ }
 {
-    let told = told_by(head, Armed::Nothing);
+    let told = armed_runs::told_by(head, Armed::Nothing);
     let carries = head.carries_on;
     let ran = writer::run_script(
         told,
@@ -207,38 +170,5 @@ pub fn open_sweep(
                 sizes,
             )
         }
-    }
-}
-
-// ---- the runs in order
-
-// What is armed in run 0: nothing, where the operations were counted.
-fn free_run(counted: Counted) -> Placed
-    ensures { λ r. ⌜ r ≡ freeBy counted ⌝ }
-{
-    match counted {
-        Counted::Points(_) => Placed::Run(Armed::Nothing),
-        Counted::NotCounted(number) => Placed::NoRun(number),
-    }
-}
-
-// What is armed in the run at a place: nothing in run 0, then the crash points of the operations, in order.
-pub fn point_at(
-    place: u64,
-    geometry: Geometry,
-    kinds: &[u8],
-    offsets: &[u32],
-    lens: &[u32],
-) -> Placed
-    ensures { λ r. ⌜ r ≡ placedAt place geometry (now (kinds .entry)) (now (offsets .entry)) (now (lens .entry)) ⌝ }
-{
-    if place == 0 {
-        let counted = inject::injection_count(kinds, offsets, lens, geometry);
-        return free_run(counted);
-    }
-    let found = inject::injection_at(kinds, offsets, lens, geometry, place - 1);
-    match found {
-        Found::Point(injection) => Placed::Run(Armed::At(injection)),
-        Found::NotFound(number) => Placed::NoRun(number),
     }
 }

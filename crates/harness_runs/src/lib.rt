@@ -97,7 +97,7 @@ pub fn run_at(
     if refused != 0 {
         return RunAt::NotRun(refused);
     }
-    let told = harness::told_by(head, armed);
+    let told = armed_runs::told_by(head, armed);
     let carries = head.carries_on;
     let ran = writer::run_script(
         told,

@@ -25,9 +25,9 @@ use Rattle.ledger.specs.Records.{Label, begin, end, RecordMark}
 use Rattle.plain.specs.Plain.{Act, Call, act, mark, Op, Run, refusal, markRefusal, wholly, takenBy, refused, step, run, unrun, plain}
 use Rattle.plain.specs.Ledger.{idOf, begun, ledger}
 use Rattle.plain.proofs.Entries.{ledger-ids}
-use Rattle.replay.specs.Calls.{callBy, callsOf}
-use Rattle.replay.specs.Replay.{Calls, listOf}
-use Rattle.replay.specs.Scans.{takes, beginsFrom, Even}
+use Rattle.call_rows.specs.Calls.{callBy, callsOf, Calls, listOf}
+use Rattle.call_rows.specs.Tests.{takes, beginsFrom}
+use Rattle.replay.specs.Scans.{Even}
 
 isBegin : Label → Bool
 isBegin (begin id) = true

@@ -1,6 +1,5 @@
 -- Laws of a list of calls in columns.
 pub mod One
-pub mod Scanned
 pub mod Turns
 pub mod Begins
 pub mod Whole

@@ -18,7 +18,7 @@ use Rattle.session.specs.Written.{written}
 use Rattle.session_erase.specs.Erase.{eraseCall}
 use Rattle.session_program.specs.Program.{programCall}
 use Rattle.threaded.specs.Threaded.{Session, afterWrite, afterBarrier, afterMark, answered}
-use Rattle.replay.specs.Calls.{callBy}
+use Rattle.call_rows.specs.Calls.{callBy}
 use Rattle.replay.specs.Scans.{sessionOf, answeredOf}
 
 -- a program that is not outside the pool is within it

@@ -5,22 +5,18 @@
 --     left-end        past the last
 -- Assumes nothing.
 use mathlib.Core.Path.{_≡_, refl, sym, ap, _∙_}
-use mathlib.Core.Bool.{false, _&&_}
 use mathlib.Core.List.{List, [], _∷_, _++_}
 use Prim.Native.Nat.{ℕ, zero, suc, _+_, _≤_, _<_}
 use native.Mathlib.Numerals.{add-one}
 use native.Mathlib.Omega.{arith}
 use lib.ListN.{length, getD, take, drop}
 use lib.Seq.{take-length}
-use lib.Dec.{eqb, ltb}
 use Rattle.basics.specs.Parts.{part}
 use Rattle.basics.proofs.Scans.{at-step, at-end}
-use Rattle.device.proofs.Pairs.{false-left, false-right}
 use Rattle.session.specs.declared.Told.{Told}
 use Rattle.plain.specs.Plain.{Call}
 use Rattle.threaded.specs.Threaded.{Session, Answered, answered, Threaded, threaded}
-use Rattle.replay.specs.Calls.{callBy, callsOf, anyOutside}
-use Rattle.replay.specs.Replay.{Calls, listOf}
+use Rattle.call_rows.specs.Calls.{callBy, callsOf, Calls, listOf}
 use Rattle.replay.specs.Scans.{Even, ran, ranBy}
 
 -- the calls from a row on
@@ -109,14 +105,3 @@ left-end t c all i s answers answers₀ even h k n l e =
     let a : answers ≡ all .answers ++ drop (length (all .answers)) answers₀ =
     e ∙ ap (λ (j : ℕ). take j (all .answers) ++ drop j answers₀) m ∙ ap (λ (v : List ℕ). v ++ drop (length (all .answers)) answers₀) (take-length (all .answers)) in
     λ j. ran (f j) (a j)
-
--- no row of columns that are inside the pool is outside it
-pub inside-at : (pool : ℕ) (ks ls ss : List ℕ) (i : ℕ) → length ls ≡ length ks → length ss ≡ length ks → i < length ks → anyOutside pool ks ls ss ≡ false
-    → (eqb (getD ks i 0) 0 && ltb pool (getD ss i 0 + getD ls i 0)) ≡ false
-unfolding anyOutside
-inside-at pool [] ls ss i p q h e = absurd (omega arith)
-inside-at pool (k ∷ ks) [] ss i p q h e = absurd (omega arith)
-inside-at pool (k ∷ ks) (l ∷ ls) [] i p q h e = absurd (omega arith)
-inside-at pool (k ∷ ks) (l ∷ ls) (s ∷ ss) zero p q h e = false-left (eqb k 0 && ltb pool (s + l)) (anyOutside pool ks ls ss) e
-inside-at pool (k ∷ ks) (l ∷ ls) (s ∷ ss) (suc i) p q h e =
-    inside-at pool ks ls ss i (omega arith) (omega arith) (omega arith) (false-right (eqb k 0 && ltb pool (s + l)) (anyOutside pool ks ls ss) e)

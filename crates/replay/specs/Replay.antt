@@ -3,38 +3,22 @@ use mathlib.Core.Bool.{Bool, _||_, cond}
 use mathlib.Core.List.{List, [], _∷_, _++_}
 use Prim.Native.Nat.{ℕ}
 use lib.ListN.{length, drop}
-use lib.Dec.{eqb, leb, ltb}
-use Rattle.basics.specs.Tests.{unless, refuseIf, firstOf}
-use Rattle.storage.specs.declared.Geometry.{Geometry}
-use Rattle.storage.specs.Geometry.{geometryTest}
+use lib.Dec.{eqb, ltb}
+use Rattle.basics.specs.Tests.{firstOf}
 use Rattle.device.specs.Media.{newMedia}
-use Rattle.model.specs.Columns.{allUpTo}
 use Rattle.session.specs.declared.Told.{Told}
 use Rattle.session.specs.Log.{Log, Marks}
-use Rattle.session.specs.Tests.{sizeTest, logUnevenOf, marksUnevenOf, logShort, marksShort}
+use Rattle.session.specs.Tests.{logUnevenOf, marksUnevenOf, logShort, marksShort}
 use Rattle.session.specs.Start.{fresh}
 use Rattle.ledger.specs.declared.Derived.{Derived}
 use Rattle.ledger.specs.declared.Derived.the-variants.{Entries, NotDerived}
 use Rattle.ledger.specs.Ledger.{Entered, entriesUneven, entered}
-use Rattle.plain.specs.Plain.{Call, Run, plain}
+use Rattle.plain.specs.Plain.{Run, plain}
 use Rattle.plain.specs.Ledger.{ledger}
 use Rattle.threaded.specs.Threaded.{Session, threaded}
-use Rattle.replay.specs.Calls.{callsOf, anyOutside, callsUneven}
-
--- the calls' columns and the pool
-pub record Calls : Type 0 where
-  pub kinds : List ℕ
-  pub ids : List ℕ
-  pub offsets : List ℕ
-  pub lens : List ℕ
-  pub starts : List ℕ
-  pub pool : List ℕ
-
-abbrev pub calls : (kinds ids offsets lens starts pool : List ℕ) → Calls
-calls k i o l s p = record { kinds = k; ids = i; offsets = o; lens = l; starts = s; pool = p }
-
-abbrev pub listOf : Calls → List Call
-listOf c = callsOf (c .kinds) (c .ids) (c .offsets) (c .lens) (c .starts) (c .pool)
+use Rattle.rows.specs.Tests.{lengthsNumber}
+use Rattle.call_rows.specs.Calls.{Calls, listOf}
+use Rattle.call_rows.specs.Tests.{callsUnevenOf, contentTest}
 
 -- all else that is lent: the answers, what a session is lent, and the ledger's columns
 pub record Lent : Type 0 where
@@ -54,34 +38,23 @@ runOf t c x = plain t (newMedia (length (x .media))) (listOf c)
 
 -- ---- the tests: "the lowest number comes first", 1 to 3, 7, 12, 13
 
--- "columns of one list unequal": the log's, the marks', the calls', the ledger's
+-- "columns of one list unequal": the log's, the marks', the ledger's, the calls'
+abbrev pub othersUneven : Lent → Bool
+othersUneven x =
+    logUnevenOf (x .log) || marksUnevenOf (x .marks) || entriesUneven (length (x .entries .ids)) (length (x .entries .states)) (length (x .entries .torn))
+
 abbrev pub unevenOf : Calls → Lent → Bool
-unevenOf c x =
-    logUnevenOf (x .log) || marksUnevenOf (x .marks)
-    || callsUneven (length (c .kinds)) (length (c .ids)) (length (c .offsets)) (length (c .lens)) (length (c .starts))
-    || entriesUneven (length (x .entries .ids)) (length (x .entries .states)) (length (x .entries .torn))
+unevenOf c x = othersUneven x || callsUnevenOf c
 
 -- a session's columns shorter than its limits, and answers shorter than the calls
 abbrev pub shortOf : Calls → Lent → Bool
 shortOf c x = logShort (length (x .log .kinds)) || marksShort (length (x .marks .codes)) || ltb (length (x .answers)) (length (c .kinds))
 
--- what the columns hold, where they are of one length: 12 for a code without a meaning; 13 for columns too short, for bytes outside the
--- pool, and for ledger columns, of length `ids`, that are shorter than the result
-unfoldable pub contentTest : Calls → (short : Bool) → (entries ids : ℕ) → ℕ
-contentTest c short entries ids =
-    firstOf
-    (unless (allUpTo 4 (c .kinds)) 12
-    ∷ refuseIf (short || anyOutside (length (c .pool)) (c .kinds) (c .lens) (c .starts)) 13
-    ∷ unless (leb entries ids) 13
-    ∷ [])
-
-unfoldable pub lengthTest : Geometry → (media copy : ℕ) → (uneven : Bool) → ℕ
-lengthTest g media copy uneven = firstOf (geometryTest g ∷ sizeTest g media copy ∷ refuseIf uneven 12 ∷ [])
-
+-- what refuses a list of calls, with as many entries as the plain run's ledger has
 abbrev pub replayNumber : Told → Calls → Lent → ℕ
 replayNumber t c x =
     firstOf
-    (lengthTest (t .geometry) (length (x .media)) (length (x .copy)) (unevenOf c x)
+    (lengthsNumber (t .geometry) (length (x .media)) (length (x .copy)) (unevenOf c x)
     ∷ contentTest c (shortOf c x) (length (ledger (runOf t c x))) (length (x .entries .ids))
     ∷ [])
 

@@ -1,26 +1,15 @@
 -- What the private functions of `src/` answer. No public contract cites these. Definitions only; assumes nothing.
 use mathlib.Core.Path.{_≡_}
-use mathlib.Core.Bool.{Bool, false, _&&_}
-use mathlib.Core.List.{List, [], _∷_, _++_}
-use Prim.Native.Nat.{ℕ, _+_, _≤_}
+use mathlib.Core.Bool.{false}
+use mathlib.Core.List.{List, _++_}
+use Prim.Native.Nat.{ℕ, _≤_}
 use lib.ListN.{length, drop}
-use lib.Dec.{eqb, leb, ltb}
-use Rattle.basics.specs.Tests.{flag}
 use Rattle.session.specs.declared.Counters.{Counters}
 use Rattle.session.specs.declared.Called.{Called}
 use Rattle.session.specs.Log.{Log, Marks}
 use Rattle.threaded.specs.Threaded.{Session, Answered, Threaded}
-use Rattle.replay.specs.Calls.{anyOutside}
-use Rattle.replay.specs.Replay.{Calls}
-
--- a mark of this code is taken where so many were taken before: a session takes 512
-abbrev pub takes : (marks code : ℕ) → Bool
-takes marks code = leb 3 code && ltb marks 512
-
--- how many begins are taken of these codes, where so many marks were taken before
-unfoldable pub beginsFrom : (marks : ℕ) → (kinds : List ℕ) → ℕ
-beginsFrom marks [] = 0
-beginsFrom marks (k ∷ ks) = flag (takes marks k && eqb k 3) + beginsFrom (marks + flag (takes marks k)) ks
+use Rattle.rows.specs.Tests.{anyOutside}
+use Rattle.call_rows.specs.Calls.{Calls}
 
 -- a session, and a call's answer, by their parts
 abbrev pub sessionOf : Counters → (media copy : List ℕ) → Log → Marks → Session
@@ -39,7 +28,7 @@ pub record Even (c : Calls) : Type 0 where
 -- the bytes that a call's columns name are there
 pub record Ready (c : Calls) (answers : List ℕ) : Type 0 where
   pub even : Even c
-  pub inside : anyOutside (length (c .pool)) (c .kinds) (c .lens) (c .starts) ≡ false
+  pub inside : anyOutside 0 (length (c .pool)) (c .kinds) (c .lens) (c .starts) ≡ false
   pub room : length (c .kinds) ≤ length answers
 
 -- what a list of calls leaves: the session, and its answers at the beginning of a column

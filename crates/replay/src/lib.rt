@@ -8,7 +8,6 @@ use session::MARKS;
 use session::OPERATIONS;
 use session::Started;
 use session::Told;
-use storage::Geometry;
 ghost use mathlib.Core.Path.{_≡_};
 ghost use mathlib.Core.Bool.{false, _&&_};
 ghost use Prim.Native.Nat.{_+_};
@@ -18,99 +17,9 @@ ghost use Rattle.basics.specs.Parts.{part};
 ghost use Rattle.session.specs.Log.{logOf, marksOf};
 ghost use Rattle.threaded.specs.Threaded as thread;
 ghost use Rattle.ledger.specs.Ledger.{enteredOf};
-ghost use Rattle.replay.specs.Calls.{callBy, callsUneven, anyOutside};
-ghost use Rattle.replay.specs.Replay.{calls, listOf, lent, lengthTest, contentTest, replayed, replayCall};
-ghost use Rattle.replay.specs.Scans.{beginsFrom, sessionOf, answeredOf, Ready, ran, ranBy};
-
-// ---- tests
-
-// Whether the calls' columns are unequal.
-fn calls_uneven(kinds: usize, ids: usize, offsets: usize, lens: usize, starts: usize) -> bool
-    ensures { λ r. ⌜ r ≡ callsUneven kinds ids offsets lens starts ⌝ }
-{
-    (ids != kinds) | (offsets != kinds) | (lens != kinds) | (starts != kinds)
-}
-
-// Whether a call is a program whose bytes are not all in a pool of this length.
-fn is_outside(kind: u8, start: u32, len: u32, pool: usize) -> bool
-    ensures { λ r. ⌜ r ≡ (eqb kind 0 && ltb pool (start + len)) ⌝ }
-{
-    (kind == 0) & (pool < start as usize + len as usize)
-}
-
-// Whether some program's bytes are not all in a pool of this length.
-fn any_outside(kinds: &[u8], lens: &[u32], starts: &[u32], pool: usize) -> bool
-    requires { ⌜ (length (now lens) ≡ length (now kinds)) × (length (now starts) ≡ length (now kinds)) ⌝ }
-    ensures { λ r. ⌜ r ≡ anyOutside pool (now (kinds .entry)) (now (lens .entry)) (now (starts .entry)) ⌝ }
-{
-    let mut i = 0;
-    while i < kinds.len() {
-        if is_outside(kinds[i], starts[i], lens[i], pool) {
-            return true;
-        }
-        i += 1;
-    }
-    false
-}
-
-// How many begins a session takes of these calls: it takes 512 marks, stopped or not.
-fn begins_taken(kinds: &[u8]) -> usize
-    ensures { λ r. ⌜ r ≡ beginsFrom 0 (now (kinds .entry)) ⌝ }
-{
-    let mut begins: usize = 0;
-    let mut marks: usize = 0;
-    let mut i = 0;
-    while i < kinds.len() {
-        let kind = kinds[i];
-        let taken = (kind >= 3) & (marks < 512);
-        begins += session::flag_of(taken & (kind == 3)) as usize;
-        marks += session::flag_of(taken) as usize;
-        i += 1;
-    }
-    begins
-}
-
-// The number of the lengths: 1 to 3, 7, then 12 where columns of one list are unequal.
-fn length_refusal(geometry: Geometry, media: usize, copy: usize, uneven: bool) -> u32
-    ensures { λ r. ⌜ r ≡ lengthTest geometry media copy uneven ⌝ }
-{
-    let checked = geometry.check();
-    let units = checked.refusal();
-    if units != 0 {
-        return units;
-    }
-    let sizes = session::size_refusal(geometry, media, copy);
-    if sizes != 0 {
-        return sizes;
-    }
-    if uneven { 12 } else { 0 }
-}
-
-// The number of what columns of one length hold. `short` tells whether some are too short already, and `ids` is the length of the
-// ledger's.
-fn content_refusal(
-    kinds: &[u8],
-    ids: &[u32],
-    offsets: &[u32],
-    lens: &[u32],
-    starts: &[u32],
-    pool: &[u8],
-    short: bool,
-    entries: usize,
-) -> u32
-    requires { ⌜ (length (now lens) ≡ length (now kinds)) × (length (now starts) ≡ length (now kinds)) ⌝ }
-    ensures { λ r. ⌜ r ≡ contentTest (calls (now (kinds .entry)) (now (ids .entry)) (now (offsets .entry)) (now (lens .entry)) (now (starts .entry)) (now (pool .entry))) short (beginsFrom 0 (now (kinds .entry))) entries ⌝ }
-{
-    if !model::all_up_to(kinds, 4) {
-        return 12;
-    }
-    if short | any_outside(kinds, lens, starts, pool.len()) {
-        return 13;
-    }
-    if entries < begins_taken(kinds) { 13 } else { 0 }
-}
-
-// ---- calls
+ghost use Rattle.call_rows.specs.Calls.{callBy, calls, listOf};
+ghost use Rattle.replay.specs.Replay.{lent, replayed, replayCall};
+ghost use Rattle.replay.specs.Scans.{sessionOf, answeredOf, Ready, ran, ranBy};
 
 // One call. The bytes of a program are in the pool.
 fn call(
@@ -284,37 +193,25 @@ pub fn replay(
         answered.len(),
     );
     let noted = session_marks::marks_uneven(marks.len(), named.len(), places.len());
-    let listed = calls_uneven(
-        kinds.len(),
-        ids.len(),
-        offsets.len(),
-        lens.len(),
-        starts.len(),
-    );
     let entered = (states.len() != records.len()) | (torn.len() != records.len());
+    let short = (ops.len() < OPERATIONS) | (marks.len() < MARKS) | (answers.len() < kinds.len());
     let geometry = told.geometry;
-    let lengths = length_refusal(
+    let refused = call_rows::calls_refusal(
         geometry,
         media.len(),
         copy.len(),
-        log | noted | listed | entered,
-    );
-    if lengths != 0 {
-        return Derived::NotDerived(lengths);
-    }
-    let short = (ops.len() < OPERATIONS) | (marks.len() < MARKS) | (answers.len() < kinds.len());
-    let contents = content_refusal(
+        log | noted | entered,
+        short,
+        records.len(),
         kinds,
         ids,
         offsets,
         lens,
         starts,
         pool,
-        short,
-        records.len(),
     );
-    if contents != 0 {
-        return Derived::NotDerived(contents);
+    if refused != 0 {
+        return Derived::NotDerived(refused);
     }
     let started = session_calls::start(
         told,

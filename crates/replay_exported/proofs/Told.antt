@@ -7,7 +7,8 @@ use Prim.Native.Nat.{ℕ}
 use Rattle.session.specs.declared.Told.{Told}
 use Rattle.ledger.specs.declared.Derived.{Derived}
 use Rattle.ledger.specs.declared.Derived.the-variants.{Entries, NotDerived}
-use Rattle.replay.specs.Replay.{Calls, Lent, Replayed, replayed, replayCall}
+use Rattle.call_rows.specs.Calls.{Calls}
+use Rattle.replay.specs.Replay.{Lent, Replayed, replayed, replayCall}
 use Rattle.session_numbers.specs.Numbers.{toldOf}
 use Rattle.replay_exported.specs.Left.{ReplayLeft, replayLeft, replayedOver}
 

@@ -4,7 +4,8 @@ use ledger::Derived;
 ghost use mathlib.Core.Path.{_≡_};
 ghost use Rattle.session.specs.Log.{logOf, marksOf};
 ghost use Rattle.ledger.specs.Ledger.{enteredOf};
-ghost use Rattle.replay.specs.Replay.{calls, lent, replayCall};
+ghost use Rattle.call_rows.specs.Calls.{calls};
+ghost use Rattle.replay.specs.Replay.{lent, replayCall};
 ghost use Rattle.session_numbers.specs.Numbers.{toldOf};
 ghost use Rattle.replay_exported.specs.Left.{replayLeft, replayedOver};
 

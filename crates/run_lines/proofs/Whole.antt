@@ -19,7 +19,7 @@ use Rattle.script.specs.declared.Head.{Head}
 use Rattle.script.specs.Columns.{Columns}
 use Rattle.lines.specs.Lines.{judgedLine}
 use Rattle.lines.specs.Answers.{Put, put, suggestedWritten}
-use Rattle.harness.specs.declared.Placed.{Placed}
+use Rattle.armed_runs.specs.declared.Placed.{Placed}
 use Rattle.harness_runs.specs.declared.RunAt.{RunAt}
 use Rattle.harness_runs.specs.Running.{RanAt}
 use Rattle.text_of_runs.specs.Lent.{Desk, Book}

@@ -20,9 +20,9 @@ use Rattle.lines.specs.declared.Line.{Line}
 use Rattle.lines.specs.declared.Line.the-variants.{Past, NotWritten}
 use Rattle.lines.specs.Lines.{suggested, judgedLine}
 use Rattle.lines.specs.Answers.{Put, put, sweepPut}
-use Rattle.harness.specs.declared.Placed.{Placed}
-use Rattle.harness.specs.declared.Placed.the-variants.{Run, NoRun}
-use Rattle.harness.specs.Places.{placedAt}
+use Rattle.armed_runs.specs.declared.Placed.{Placed}
+use Rattle.armed_runs.specs.declared.Placed.the-variants.{Run, NoRun}
+use Rattle.armed_runs.specs.Places.{placedAt}
 use Rattle.harness_runs.specs.declared.RunAt.{RunAt}
 use Rattle.harness_runs.specs.declared.RunAt.the-variants.{Ended, NotRun}
 use Rattle.harness_runs.specs.Running.{RanAt, runAtCall}

@@ -1,7 +1,7 @@
 // The line of the run at a place of a sweep, as `sweep` or `judge` prints it, written into a buffer that the caller lends: what is
 // armed there, the script's run with it, its ledger, its line. A run has its media, copy, log, marks and ledger in locals, so it
 // depends on nothing that an earlier run left. Each promise is an equation with a definition of specs/.
-use harness::Placed;
+use armed_runs::Placed;
 use harness_runs::RunAt;
 use landing::Stop;
 use lines::Line;
@@ -290,7 +290,7 @@ pub fn run_line(
     ensures { λ r. ⌜ runPut r (now (out .exit)) ≡ runLineCall judged place head rows (columns (now (kinds .entry)) (now (firsts .entry)) (now (seconds .entry)) (now (thirds .entry)) (now (starts .entry)) (now (pool .entry))) (now (ops .entry)) (now (spans .entry)) (now (sizes .entry)) at (now (out .entry)) ⌝ }
 {
     let geometry = head.geometry;
-    let placed = harness::point_at(place, geometry, ops, spans, sizes);
+    let placed = armed_runs::point_at(place, geometry, ops, spans, sizes);
     match placed {
         Placed::NoRun(number) => RunLine::NoLine(number),
         Placed::Run(armed) => armed_line(

@@ -13,9 +13,10 @@ use Rattle.storage.specs.Geometry.{geometryTest}
 use Rattle.device.proofs.Pairs.{false-left, false-right}
 use Rattle.session.specs.Tests.{sizeTest}
 use Rattle.script.specs.Columns.{Columns}
-use Rattle.script_rows.specs.Rows.{allLetters, anyOutside, rowsUnevenOf, runLengths, runContents, rowsNumber}
+use Rattle.rows.specs.Tests.{anyOutside, lengthsNumber}
+use Rattle.rows.proofs.Lengths.{passed, five-even}
+use Rattle.script_rows.specs.Rows.{allLetters, rowsUnevenOf, runContents, rowsNumber}
 use Rattle.script_rows.specs.Ready.{Ready}
-use Rattle.script_rows.proofs.Scanned.{rows-even}
 
 module _ (g : Geometry) (media copy : ℕ) (uneven short : Bool) (rows : ℕ) (k : Columns) where
   -- what lengths that are not refused are
@@ -25,26 +26,20 @@ module _ (g : Geometry) (media copy : ℕ) (uneven short : Bool) (rows : ℕ) (k
     pub others : uneven ≡ false
     pub columns-even : (length (k .firsts) ≡ length (k .kinds)) × (length (k .seconds) ≡ length (k .kinds)) × (length (k .thirds) ≡ length (k .kinds)) × (length (k .starts) ≡ length (k .kinds))
 
-  pub evens : runLengths g media copy (uneven || rowsUnevenOf k) ≡ 0 → Even
-  unfolding runLengths
+  pub evens : lengthsNumber g media copy (uneven || rowsUnevenOf k) ≡ 0 → Even
   evens e =
-      let sizes = sizeTest g media copy in
-      let all = uneven || rowsUnevenOf k in
-      let one = firstOf-zero (geometryTest g) (sizes ∷ refuseIf all 12 ∷ []) e in
-      let two = firstOf-zero sizes (refuseIf all 12 ∷ []) (one .1) in
-      let three = firstOf-zero (refuseIf all 12) [] (two .1) in
-      let none : all ≡ false = refuse-zero all 11 (three .0) in
+      let all = passed g media copy (uneven || rowsUnevenOf k) e in
       record {
-        geometry-passes = one .0;
-        sizes-pass = two .0;
-        others = false-left uneven (rowsUnevenOf k) none;
-        columns-even = rows-even (length (k .kinds)) (length (k .firsts)) (length (k .seconds)) (length (k .thirds)) (length (k .starts)) (false-right uneven (rowsUnevenOf k) none);
+        geometry-passes = all .geometry-passes;
+        sizes-pass = all .sizes-pass;
+        others = false-left uneven (rowsUnevenOf k) (all .all-even);
+        columns-even = five-even (length (k .kinds)) (length (k .firsts)) (length (k .seconds)) (length (k .thirds)) (length (k .starts)) (false-right uneven (rowsUnevenOf k) (all .all-even));
       }
 
   -- the two tests, as the function takes them
-  module _ (listed : Bool) (w : listed ≡ rowsUnevenOf k) (lengths : ℕ) (e : lengths ≡ runLengths g media copy (uneven || listed)) where
-    lengths-are : lengths ≡ runLengths g media copy (uneven || rowsUnevenOf k)
-    lengths-are = e ∙ ap (λ (b : Bool). runLengths g media copy (uneven || b)) w
+  module _ (listed : Bool) (w : listed ≡ rowsUnevenOf k) (lengths : ℕ) (e : lengths ≡ lengthsNumber g media copy (uneven || listed)) where
+    lengths-are : lengths ≡ lengthsNumber g media copy (uneven || rowsUnevenOf k)
+    lengths-are = e ∙ ap (λ (b : Bool). lengthsNumber g media copy (uneven || b)) w
 
     pub lengths-refuse : (lengths ≡ 0 → ⊥) → lengths ≡ rowsNumber g media copy uneven short rows k
     unfolding rowsNumber
@@ -59,7 +54,7 @@ module _ (g : Geometry) (media copy : ℕ) (uneven short : Bool) (rows : ℕ) (k
 
   -- rows that are not refused
   module _ (none : rowsNumber g media copy uneven short rows k ≡ 0) where
-    both : (runLengths g media copy (uneven || rowsUnevenOf k) ≡ 0) × (firstOf (runContents rows k short ∷ []) ≡ 0)
+    both : (lengthsNumber g media copy (uneven || rowsUnevenOf k) ≡ 0) × (firstOf (runContents rows k short ∷ []) ≡ 0)
     unfolding rowsNumber
     both = firstOf-zero _ _ none
 
@@ -67,7 +62,7 @@ module _ (g : Geometry) (media copy : ℕ) (uneven short : Bool) (rows : ℕ) (k
     lengths-known = evens (both .0)
 
     abbrev outside : Bool
-    outside = anyOutside (length (k .pool)) (take rows (k .kinds)) (take rows (k .seconds)) (take rows (k .starts))
+    outside = anyOutside 80 (length (k .pool)) (take rows (k .kinds)) (take rows (k .seconds)) (take rows (k .starts))
 
     contents-pass : (short || ltb (length (k .kinds)) rows || outside) ≡ false
     unfolding runContents

@@ -9,10 +9,10 @@ use lib.Seq.{getD-take, length-take-le}
 use lib.Dec.{eqb, ltb}
 use Rattle.basics.proofs.Scans.{at-step}
 use Rattle.device.proofs.Pairs.{false-left, false-right}
+use Rattle.rows.proofs.Outside.{inside-of}
 use Rattle.script.specs.Calls.{Call}
 use Rattle.script.specs.Columns.{Columns}
 use Rattle.script.specs.Held.{callFrom, rowsIn, callsIn}
-use Rattle.script_rows.specs.Rows.{anyOutside}
 use Rattle.script_rows.specs.Ready.{Ready}
 
 -- the calls of the rows from one on
@@ -55,17 +55,7 @@ rows-end rows k i h =
     let e : rows - i ≡ 0 = omega arith in
     ap (λ (n : ℕ). rowsIn n (drop i (k .kinds)) (drop i (k .firsts)) (drop i (k .seconds)) (drop i (k .thirds)) (drop i (k .starts)) (k .pool)) e
 
--- no row of columns that are inside the pool is outside it
-inside-of : (pool : ℕ) (ks ls ss : List ℕ) (i : ℕ) → length ls ≡ length ks → length ss ≡ length ks → i < length ks → anyOutside pool ks ls ss ≡ false
-    → (eqb (getD ks i 0) 80 && ltb pool (getD ss i 0 + getD ls i 0)) ≡ false
-unfolding anyOutside
-inside-of pool [] ls ss i p q h e = absurd (omega arith)
-inside-of pool (k ∷ ks) [] ss i p q h e = absurd (omega arith)
-inside-of pool (k ∷ ks) (l ∷ ls) [] i p q h e = absurd (omega arith)
-inside-of pool (k ∷ ks) (l ∷ ls) (s ∷ ss) zero p q h e = false-left (eqb k 80 && ltb pool (s + l)) (anyOutside pool ks ls ss) e
-inside-of pool (k ∷ ks) (l ∷ ls) (s ∷ ss) (suc i) p q h e =
-    inside-of pool ks ls ss i (omega arith) (omega arith) (omega arith) (false-right (eqb k 80 && ltb pool (s + l)) (anyOutside pool ks ls ss) e)
-
+-- a row's bytes are in the pool
 pub inside-at : (rows : ℕ) (k : Columns) (i : ℕ) → Ready rows k → i < rows
     → (eqb (getD (k .kinds) i 0) 80 && ltb (length (k .pool)) (getD (k .starts) i 0 + getD (k .seconds) i 0)) ≡ false
 inside-at rows k i r h =
@@ -74,4 +64,4 @@ inside-at rows k i r h =
     let ls : length (take rows (k .seconds)) ≡ rows = length-take-le rows (k .seconds) (rw (r .seconds-even) room) in
     let lt : length (take rows (k .starts)) ≡ rows = length-take-le rows (k .starts) (rw (r .starts-even) room) in
     rw (getD-take rows (k .kinds) i 0 h, getD-take rows (k .seconds) i 0 h, getD-take rows (k .starts) i 0 h) at
-    (inside-of (length (k .pool)) (take rows (k .kinds)) (take rows (k .seconds)) (take rows (k .starts)) i (ls ∙ sym lk) (lt ∙ sym lk) (rw lk h) (r .inside))
+    (inside-of 80 (length (k .pool)) (take rows (k .kinds)) (take rows (k .seconds)) (take rows (k .starts)) i (ls ∙ sym lk) (lt ∙ sym lk) (rw lk h) (r .inside))

@@ -3,8 +3,8 @@ use mathlib.Core.Path.{_≡_}
 use mathlib.Core.Bool.{false}
 use Prim.Native.Nat.{ℕ, _≤_}
 use lib.ListN.{length, take}
+use Rattle.rows.specs.Tests.{anyOutside}
 use Rattle.script.specs.Columns.{Columns}
-use Rattle.script_rows.specs.Rows.{anyOutside}
 
 pub record Ready (rows : ℕ) (k : Columns) : Type 0 where
   pub firsts-even : length (k .firsts) ≡ length (k .kinds)
@@ -12,4 +12,4 @@ pub record Ready (rows : ℕ) (k : Columns) : Type 0 where
   pub thirds-even : length (k .thirds) ≡ length (k .kinds)
   pub starts-even : length (k .starts) ≡ length (k .kinds)
   pub room : rows ≤ length (k .kinds)
-  pub inside : anyOutside (length (k .pool)) (take rows (k .kinds)) (take rows (k .seconds)) (take rows (k .starts)) ≡ false
+  pub inside : anyOutside 80 (length (k .pool)) (take rows (k .kinds)) (take rows (k .seconds)) (take rows (k .starts)) ≡ false

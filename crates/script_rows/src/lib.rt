@@ -1,28 +1,14 @@
 // The rows of a read script, tested before a run: columns of one length, letters that have a meaning, programs whose bytes
 // are in the pool. Every number that can refuse a run of them is found here, the lowest first, so that a refused run changes
 // nothing.
+use rows::any_outside;
+use rows::columns_uneven;
+use rows::lengths_refusal;
 use storage::Geometry;
 ghost use mathlib.Core.Path.{_≡_};
-ghost use mathlib.Core.Bool.{_&&_};
-ghost use Prim.Native.Nat.{_+_, _≤_, min};
 ghost use lib.ListN.{length};
-ghost use lib.Dec.{eqb, ltb};
 ghost use Rattle.script.specs.Columns.{columns};
-ghost use Rattle.script_rows.specs.Rows.{isLetter, allLetters, anyOutside, rowsUneven, runLengths, runContents, rowsNumber};
-
-// Whether the rows' columns are unequal.
-fn rows_uneven(kinds: usize, firsts: usize, seconds: usize, thirds: usize, starts: usize) -> bool
-    ensures { λ r. ⌜ r ≡ rowsUneven kinds firsts seconds thirds starts ⌝ }
-{
-    (firsts != kinds) | (seconds != kinds) | (thirds != kinds) | (starts != kinds)
-}
-
-// Whether a row is a program whose bytes are not all in a pool of this length.
-fn is_outside(kind: u8, start: u32, len: u32, pool: usize) -> bool
-    ensures { λ r. ⌜ r ≡ (eqb kind 80 && ltb pool (start + len)) ⌝ }
-{
-    (kind == 80) & (pool < start as usize + len as usize)
-}
+ghost use Rattle.script_rows.specs.Rows.{isLetter, allLetters, runContents, rowsNumber};
 
 // Whether a code is the letter of a call.
 fn is_letter(kind: u8) -> bool
@@ -45,37 +31,6 @@ fn all_letters(kinds: &[u8]) -> bool
     true
 }
 
-// Whether some program's bytes are not all in a pool of this length.
-fn any_outside(kinds: &[u8], seconds: &[u32], starts: &[u32], pool: usize) -> bool
-    requires { ⌜ (length (now seconds) ≡ length (now kinds)) × (length (now starts) ≡ length (now kinds)) ⌝ }
-    ensures { λ r. ⌜ r ≡ anyOutside pool (now (kinds .entry)) (now (seconds .entry)) (now (starts .entry)) ⌝ }
-{
-    let mut i = 0;
-    while i < kinds.len() {
-        if is_outside(kinds[i], starts[i], seconds[i], pool) {
-            return true;
-        }
-        i += 1;
-    }
-    false
-}
-
-// The number of the lengths: 1 to 3, 7, then 12 where columns of one list are unequal.
-fn run_lengths(geometry: Geometry, media: usize, copy: usize, uneven: bool) -> u32
-    ensures { λ r. ⌜ r ≡ runLengths geometry media copy uneven ⌝ }
-{
-    let checked = geometry.check();
-    let units = checked.refusal();
-    if units != 0 {
-        return units;
-    }
-    let sizes = session::size_refusal(geometry, media, copy);
-    if sizes != 0 {
-        return sizes;
-    }
-    if uneven { 12 } else { 0 }
-}
-
 // The number of what the rows counted hold, in columns of one length. `short` tells whether a session's columns are too short.
 fn run_contents(
     rows: usize,
@@ -94,7 +49,7 @@ fn run_contents(
     if !all_letters(&kinds[..n]) {
         return 12;
     }
-    let outside = any_outside(&kinds[..n], &seconds[..n], &starts[..n], pool.len());
+    let outside = any_outside(80, &kinds[..n], &seconds[..n], &starts[..n], pool.len());
     if short | (kinds.len() < rows) | outside {
         13
     } else {
@@ -120,14 +75,14 @@ pub fn rows_refusal(
 ) -> u32
     ensures { λ r. ⌜ r ≡ rowsNumber geometry media copy uneven short rows (columns (now (kinds .entry)) (now (firsts .entry)) (now (seconds .entry)) (now (thirds .entry)) (now (starts .entry)) (now (pool .entry))) ⌝ }
 {
-    let listed = rows_uneven(
+    let listed = columns_uneven(
         kinds.len(),
         firsts.len(),
         seconds.len(),
         thirds.len(),
         starts.len(),
     );
-    let lengths = run_lengths(geometry, media, copy, uneven | listed);
+    let lengths = lengths_refusal(geometry, media, copy, uneven | listed);
     if lengths != 0 {
         return lengths;
     }

@@ -33,9 +33,9 @@ use Rattle.sweeps.specs.Sweep.{toldBy, runBy, pointsOf}
 use Rattle.sweeps.specs.Decided.{meets26, runShown, runsShown}
 use Rattle.harness.specs.declared.Opened.{Opened}
 use Rattle.harness.specs.declared.Opened.the-variants.{Runs, NotSwept}
-use Rattle.harness.specs.declared.Placed.the-variants.{Run}
+use Rattle.armed_runs.specs.declared.Placed.the-variants.{Run}
 use Rattle.harness.specs.Opening.{openPoints, OpenLeft, openLeft, openedWith, openCall}
-use Rattle.harness.specs.Places.{armedBy, freeBy, placedAt}
+use Rattle.armed_runs.specs.Places.{armedBy, freeBy, placedAt}
 use Rattle.text_of_runs.specs.Steady.{Steady}
 use Rattle.text_of_runs.specs.Lent.{Desk}
 use Rattle.text_of_runs.proofs.Codes.{take-known, kinds-known}

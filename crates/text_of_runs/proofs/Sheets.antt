@@ -24,7 +24,8 @@ use Rattle.script.specs.First.{FirstLine, given, noHead, firstOfLine, headTest}
 use Rattle.script.specs.Script.{Script, script, refused, withCalls, withFirst, withLines, scriptOf}
 use Rattle.script.specs.Columns.{Columns, kindOf, firstIn, secondIn, thirdIn, bytesIn, startsOf, bytesOf, written}
 use Rattle.script.proofs.Enough.{enough}
-use Rattle.script_rows.specs.Rows.{isLetter, allLetters, anyOutside, rowsUnevenOf, runLengths, runContents, rowsNumber}
+use Rattle.rows.specs.Tests.{anyOutside, lengthsNumber}
+use Rattle.script_rows.specs.Rows.{isLetter, allLetters, rowsUnevenOf, runContents, rowsNumber}
 use Rattle.text_of_runs.specs.Lent.{Sheet}
 
 -- ---- line 1
@@ -87,7 +88,7 @@ one-inside pool start (program offset bytes) h = le-ltb pool (start + length byt
 one-inside pool start (erase offset count) h = refl
 one-inside pool start barrier h = refl
 
-all-inside : (pool start : ℕ) (xs : List Call) → start + length (bytesOf xs) ≤ pool → anyOutside pool (map kindOf xs) (map secondIn xs) (startsOf start xs) ≡ false
+all-inside : (pool start : ℕ) (xs : List Call) → start + length (bytesOf xs) ≤ pool → anyOutside 80 pool (map kindOf xs) (map secondIn xs) (startsOf start xs) ≡ false
 unfolding anyOutside startsOf bytesOf
 all-inside pool start [] h = refl
 all-inside pool start (x ∷ xs) h =
@@ -144,7 +145,7 @@ module _ (text : List ℕ) (h : Head) (xs : List Call) (e : scriptOf text ≡ sc
   unfolding written
   first-starts = take-at (startsOf 0 xs) (drop (length (startsOf 0 xs)) (k .starts)) (length xs) (length-starts 0 xs)
 
-  rows-inside : anyOutside (length (written xs k .pool)) (take (length xs) (written xs k .kinds)) (take (length xs) (written xs k .seconds)) (take (length xs) (written xs k .starts)) ≡ false
+  rows-inside : anyOutside 80 (length (written xs k .pool)) (take (length xs) (written xs k .kinds)) (take (length xs) (written xs k .seconds)) (take (length xs) (written xs k .starts)) ≡ false
   rows-inside =
       rw (sheet-kept .pool-long, first-kinds, first-seconds, first-starts)
       (all-inside 32768 0 xs (let b = enough text h xs e .bytes in omega arith))
@@ -152,7 +153,7 @@ module _ (text : List ℕ) (h : Head) (xs : List Call) (e : scriptOf text ≡ sc
   -- the geometry and every row pass: letters with a meaning, and each program's bytes in the pool
   pub rows-pass : (media copy : ℕ) → media ≡ h .geometry .capacity → copy ≡ h .geometry .capacity → (uneven short : Bool) → uneven ≡ false → short ≡ false
       → rowsNumber (h .geometry) media copy uneven short (length xs) (written xs k) ≡ 0
-  unfolding rowsNumber runLengths runContents sizeTest firstOf unless refuseIf
+  unfolding rowsNumber lengthsNumber runContents sizeTest firstOf unless refuseIf
   rows-pass media copy p q uneven short u v =
       rw (
         u,

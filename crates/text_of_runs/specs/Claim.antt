@@ -19,9 +19,9 @@ use Rattle.lines.specs.Lines.{judgedLine, runsLine, refusedText}
 use Rattle.lines.specs.Answers.{put, sweepPut, suggestedWritten}
 use Rattle.sweeps.specs.Sweep.{sweepOutput, judgeOutput}
 use Rattle.harness.specs.declared.Opened.the-variants.{Runs, NotSwept}
-use Rattle.harness.specs.declared.Placed.the-variants.{Run}
+use Rattle.armed_runs.specs.declared.Placed.the-variants.{Run}
 use Rattle.harness.specs.Opening.{OpenLeft, openCall}
-use Rattle.harness.specs.Places.{placedAt}
+use Rattle.armed_runs.specs.Places.{placedAt}
 use Rattle.harness_runs.specs.declared.RunAt.the-variants.{Ended}
 use Rattle.harness_runs.specs.Running.{RanAt, runAtCall}
 use Rattle.text_of_runs.specs.Lent.{Sheet, Desk, Book}

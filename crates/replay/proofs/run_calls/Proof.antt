@@ -8,9 +8,10 @@ use borrow.Author.Needs.{needs}
 use Rattle.basics.proofs.Overwrites.{over-more}
 use Rattle.session.specs.Log.{logOf, marksOf}
 use Rattle.threaded.specs.Threaded.{threaded}
-use Rattle.replay.specs.Replay.{calls, listOf}
+use Rattle.rows.proofs.Outside.{inside-of}
+use Rattle.call_rows.specs.Calls.{calls, listOf}
 use Rattle.replay.specs.Scans.{sessionOf, answeredOf}
-use Rattle.replay.proofs.Turns.{Left, Turned, left-first, left-turn, left-end, all-answered, inside-at}
+use Rattle.replay.proofs.Turns.{Left, Turned, left-first, left-turn, left-end, all-answered}
 use Rattle.replay.proofs.run_calls.Statement.{statement}
 use Rattle.replay.proofs.run_calls.Tie as tie
 
@@ -89,7 +90,7 @@ call-requires : tie.Need-call-requires Inv-loop μ-loop
 call-requires c κs =
     let l = c .before .before .before .before .before .before .before .before .before .before .before .before .before .before .before .before .before in
     let st = l .before .before .before .before .before .before .before .before .before .before .before .before .before .before .before .before .before .before .before in
-    inside-at _ _ _ _ _ (st .pre .even .lens-even) (st .pre .even .starts-even) (c .before .before .before .before .before .before .before .before .before .before .before .before .before .before .before .before .loop-test .taken) (st .pre .inside)
+    inside-of 0 _ _ _ _ _ (st .pre .even .lens-even) (st .pre .even .starts-even) (c .before .before .before .before .before .before .before .before .before .before .before .before .before .before .before .before .loop-test .taken) (st .pre .inside)
 
 mul-answers : tie.Need-mul-answers Inv-loop μ-loop
 mul-answers c =

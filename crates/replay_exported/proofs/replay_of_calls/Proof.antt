@@ -1,7 +1,8 @@
 -- `replay_exported::replay_of_calls` meets its contract: the call told what it leaves. Assumes nothing.
 use Rattle.session.specs.Log.{logOf, marksOf}
 use Rattle.ledger.specs.Ledger.{enteredOf}
-use Rattle.replay.specs.Replay.{calls, lent}
+use Rattle.call_rows.specs.Calls.{calls}
+use Rattle.replay.specs.Replay.{lent}
 use Rattle.replay_exported.proofs.Told.{replay-told, replay-refused}
 use borrow.Author.Needs.{needs}
 use Rattle.replay_exported.proofs.replay_of_calls.Statement.{statement}

@@ -15,29 +15,29 @@ units s = s .args .geometry
 abbrev made : tie.Start → Columns
 made s = columns (s .args .kinds .now) (s .args .firsts .now) (s .args .seconds .now) (s .args .thirds .now) (s .args .starts .now) (s .args .pool .now)
 
-rows-uneven-requires : tie.Need-rows-uneven-requires
-rows-uneven-requires c κs = search needs
+columns-uneven-requires : tie.Need-columns-uneven-requires
+columns-uneven-requires c κs = search needs
 
-run-lengths-requires : tie.Need-run-lengths-requires
-run-lengths-requires c κs = search needs
+lengths-refusal-requires : tie.Need-lengths-refusal-requires
+lengths-refusal-requires c κs = search needs
 
 returns : tie.Need-returns
 returns c =
     let s = c .before .before .before .before .before .before .before .before .before in
-    lengths-refuse (units s) (s .args .media) (s .args .copy) (s .args .uneven) (s .args .short) (s .args .rows) (made s) _ (c .before .before .rows-uneven .ensures) _ (c .before .run-lengths .ensures) (c .if1 .taken)
+    lengths-refuse (units s) (s .args .media) (s .args .copy) (s .args .uneven) (s .args .short) (s .args .rows) (made s) _ (c .before .before .columns-uneven .ensures) _ (c .before .lengths-refusal .ensures) (c .if1 .taken)
 
 run-contents-requires : tie.Need-run-contents-requires
 run-contents-requires c κs =
     let s = c .before .before .before .before .before .before .before .before .before in
-    let e = lengths-pass (units s) (s .args .media) (s .args .copy) (s .args .uneven) (s .args .short) (s .args .rows) (made s) _ (c .before .before .rows-uneven .ensures) _ (c .before .run-lengths .ensures) (c .if1 .left) .columns-even in
+    let e = lengths-pass (units s) (s .args .media) (s .args .copy) (s .args .uneven) (s .args .short) (s .args .rows) (made s) _ (c .before .before .columns-uneven .ensures) _ (c .before .lengths-refusal .ensures) (c .if1 .left) .columns-even in
     (e .1, e .3)
 
 returns-2 : tie.Need-returns-2
 returns-2 c =
     let s = c .before .before .before .before .before .before .before .before .before .before in
-    contents-tell (units s) (s .args .media) (s .args .copy) (s .args .uneven) (s .args .short) (s .args .rows) (made s) _ (c .before .before .before .rows-uneven .ensures) _ (c .before .before .run-lengths .ensures) (c .before .if1 .left) _ (c .run-contents .ensures)
+    contents-tell (units s) (s .args .media) (s .args .copy) (s .args .uneven) (s .args .short) (s .args .rows) (made s) _ (c .before .before .before .columns-uneven .ensures) _ (c .before .before .lengths-refusal .ensures) (c .before .if1 .left) _ (c .run-contents .ensures)
 
 pub rows-refusal-spec : {M : Type 1} → statement M
 rows-refusal-spec =
     tie.close
-    (tie.spec rows-uneven-requires run-lengths-requires returns run-contents-requires returns-2)
+    (tie.spec columns-uneven-requires lengths-refusal-requires returns run-contents-requires returns-2)

@@ -1,7 +1,6 @@
 -- `script_rows::run_contents` meets its contract: the first test that refuses. Assumes nothing.
 use mathlib.Core.Path.{sym, _∙_}
 use native.Mathlib.Omega.{arith}
-use lib.ListN.{length-take}
 use lib.Seq.{length-take-le}
 use Rattle.script_rows.proofs.Scanned.{content-unknown, content-short, content-fits}
 use borrow.Author.Needs.{needs}
@@ -30,7 +29,7 @@ slice-aggregate-any-outside-3 : tie.Need-slice-aggregate-any-outside-3
 slice-aggregate-any-outside-3 c = sym (length-take-le _ _ (omega (arith, c .before .before .before .before .before .before .lower .ensures .2, c .before .before .before .before .before .before .before .before .before .before .before .before .before .pre .1)))
 
 any-outside-requires : tie.Need-any-outside-requires
-any-outside-requires c κs = (simp (length-take, c .before .before .before .before .before .before .before .before .before .before .before .before .before .pre .0), simp (length-take, c .before .before .before .before .before .before .before .before .before .before .before .before .before .pre .1))
+any-outside-requires c κs = search needs
 
 returns-2 : tie.Need-returns-2
 returns-2 c = content-short _ _ _ _ (c .before .before .before .before .before .before .before .before .lower .ensures .0) _ (c .before .before .before .before .before .before .all-letters .ensures) (c .before .before .before .before .before .before .before .before .before .before .before .before .before .before .before .pre .0) (c .before .before .before .before .before .before .before .before .before .before .before .before .before .before .before .pre .1) (c .before .before .before .before .before .if1 .left) _ (c .before .any-outside .ensures) (c .if2 .taken)

@@ -1,0 +1,2 @@
+-- Laws of what is armed in each run.
+pub mod Places

@@ -1,0 +1,2 @@
+-- What is armed in each run of a sweep. Definitions only; assumes nothing.
+pub mod Places

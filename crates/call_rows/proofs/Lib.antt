@@ -1,0 +1,3 @@
+-- Laws of the tests of a list of calls.
+pub mod Scanned
+pub mod Numbers

@@ -1,0 +1,2 @@
+-- What the tests of calls in columns share. Definitions only; assumes nothing.
+pub mod Tests
