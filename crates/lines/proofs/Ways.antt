@@ -3,39 +3,21 @@
 use mathlib.Core.Path.{_≡_, sym, ap, _∙_}
 use mathlib.Core.Bool.{Bool, true, false, not}
 use mathlib.Core.List.{List, [], _∷_, _++_, map, flatten}
-use Prim.Native.Nat.{ℕ, _+_, _≤_, _<_}
+use Prim.Native.Nat.{ℕ, _+_}
 use native.Mathlib.Omega.{arith}
 use lib.ListN.{length, length-append}
 use lib.Dec.{leb}
-use borrow.Author.Tests.{leb-true, leb-false, not-true, not-false}
-use Rattle.landing.specs.declared.Stop.{Stop}
-use Rattle.model.specs.Columns.{ledgerOf, refused}
-use Rattle.session.specs.declared.Armed.{Armed}
 use Rattle.text.specs.Numbers.{decimalOf}
 use Rattle.text.specs.Printing.{Places}
 use Rattle.script.specs.Print.{joined}
+use Rattle.pieces.specs.Pieces.{letter, Cursor, cursor, after, afterAll, letters, tabbed}
+use Rattle.pieces.proofs.Lists.{flatten-append}
+use Rattle.pieces.proofs.Cursors.{joint, last-piece}
 use Rattle.lines.specs.declared.Line.the-variants.{Past, NotWritten}
-use Rattle.lines.specs.Lines.{letter, sweepLine, judgedLine, runsLine, refusedText}
-use Rattle.lines.specs.Answers.{Put, put, shownOf, sweepPut}
-use Rattle.lines.specs.Pieces.{Cursor, cursor, after, afterAll, letters, tabbed, ledgerPieces, headPieces, Few}
-use Rattle.lines.proofs.Cursors.{joint, last-piece, put-not, put-short, put-done}
-use Rattle.lines.proofs.Texts.{flatten-append, runs-pieces, refused-pieces, judge-pieces, sweep-pieces}
-
--- f is whether the line fits, and m the place past it
-module _ (number : ℕ) (z : number ≡ 0) (text : List ℕ) (at : ℕ) (out : List ℕ) (f : Bool) (m : ℕ) (e : f ≡ leb m (length out)) (l : m ≡ at + length text) where
-  line-short : not f ≡ true → _≡_ {A = Put} (record { reply = NotWritten 13; out = out }) (put number text at out)
-  line-short h = let k : length out < m = leb-false m (length out) (sym e ∙ not-true f h) in put-short number text at out z (omega arith)
-
-  line-done : not f ≡ false → (ps : List (List ℕ)) → flatten ps ≡ text → (r : ℕ) (new : List ℕ) → cursor r new ≡ afterAll ps (cursor at out)
-      → _≡_ {A = Put} (record { reply = Past r; out = new }) (put number text at out)
-  line-done h ps q r new g =
-      let k : m ≤ length out = leb-true m (length out) (sym e ∙ not-false f h) in
-      put-done number text at out z (omega arith) ps q r new g
-
--- a text and the LF
-last : (t : List ℕ) → length (t ++ flatten (letter 10 ∷ [])) ≡ length t + 1
-unfolding flatten
-last t = length-append t (letter 10)
+use Rattle.lines.specs.Lines.{judgedLine, runsLine, refusedText}
+use Rattle.lines.specs.Answers.{Put, put}
+use Rattle.lines.proofs.Texts.{runs-pieces, refused-pieces, judge-pieces}
+use Rattle.lines.proofs.Puts.{line-short, line-done}
 
 zero-is : _≡_ {A = ℕ} 0 0
 zero-is = omega arith
@@ -122,39 +104,3 @@ module _ (place number : ℕ) (history : List ℕ) (at : ℕ) (out : List ℕ) (
       line-done 0 zero-is (judgedLine place number history) at out f (at + (n + m + 2) + length (flatten (tabbed (map decimalOf history)))) e past-judged h
       (one ++ two ++ three ++ (letter 10 ∷ [])) (judge-pieces place number history) r new
       (last-piece (one ++ two ++ three) (letter 10) (cursor at out) c (cursor r new) (joint (one ++ two) three (cursor at out) b c (joint one two (cursor at out) a b i j) k) g)
-
--- ---- a run's line of `sweep`
-
-module _ (place : ℕ) (armed : Armed) (stop : Stop) (operations : ℕ) (is ss ts : List ℕ) (at : ℕ) (out : List ℕ) (number : ℕ) (u : number ≡ refused is ss ts) where
-  pub sweep-not : (number ≡ 0 → ⊥) → _≡_ {A = Put} (record { reply = NotWritten number; out = out }) (sweepPut place armed stop operations is ss ts at out)
-  unfolding sweepPut
-  sweep-not h = rw (← u) (put-not number (sweepLine place (shownOf armed stop operations is ss ts)) at out h)
-
-  module _ (z : number ≡ 0) (n : ℕ) (w : Few 110 (flatten (headPieces place armed stop operations)) n) (f : Bool)
-      (e : f ≡ leb (at + (n + 1) + length (flatten (ledgerPieces (ledgerOf is ss ts)))) (length out)) where
-    past-sweep : at + (n + 1) + length (flatten (ledgerPieces (ledgerOf is ss ts))) ≡ at + length (sweepLine place (shownOf armed stop operations is ss ts))
-    past-sweep =
-        let head = headPieces place armed stop operations in
-        let entries = ledgerPieces (ledgerOf is ss ts) in
-        let l : length (flatten (head ++ entries ++ (letter 10 ∷ []))) ≡ length (flatten (head ++ entries)) + 1 = ap length (flatten-append (head ++ entries) (letter 10 ∷ [])) ∙ last (flatten (head ++ entries)) in
-        let k : length (flatten (head ++ entries)) ≡ length (flatten head) + length (flatten entries) = ap length (flatten-append head entries) ∙ length-append (flatten head) (flatten entries) in
-        let q : length (flatten (head ++ entries ++ (letter 10 ∷ []))) ≡ length (sweepLine place (shownOf armed stop operations is ss ts)) = ap length (sweep-pieces place (shownOf armed stop operations is ss ts)) in
-        omega (arith, l, k, q, w .is)
-
-    pub sweep-short : not f ≡ true → _≡_ {A = Put} (record { reply = NotWritten 13; out = out }) (sweepPut place armed stop operations is ss ts at out)
-    unfolding sweepPut
-    sweep-short h =
-        rw (← u)
-        (line-short number z (sweepLine place (shownOf armed stop operations is ss ts)) at out f (at + (n + 1) + length (flatten (ledgerPieces (ledgerOf is ss ts)))) e past-sweep h)
-
-    pub sweep-done : not f ≡ false → (a b : Cursor) (r : ℕ) (new : List ℕ) → a ≡ afterAll (headPieces place armed stop operations) (cursor at out)
-        → b ≡ afterAll (ledgerPieces (ledgerOf is ss ts)) a → cursor r new ≡ after (letter 10) b
-        → _≡_ {A = Put} (record { reply = Past r; out = new }) (sweepPut place armed stop operations is ss ts at out)
-    unfolding sweepPut
-    sweep-done h a b r new i j k =
-        let head = headPieces place armed stop operations in
-        let entries = ledgerPieces (ledgerOf is ss ts) in
-        rw (← u)
-        (line-done number z (sweepLine place (shownOf armed stop operations is ss ts)) at out f (at + (n + 1) + length (flatten (ledgerPieces (ledgerOf is ss ts)))) e past-sweep h
-        (head ++ entries ++ (letter 10 ∷ [])) (sweep-pieces place (shownOf armed stop operations is ss ts)) r new
-        (last-piece (head ++ entries) (letter 10) (cursor at out) b (cursor r new) (joint head entries (cursor at out) a b i j) k))

@@ -1,5 +1,4 @@
--- A line written into a lent buffer from a place on, and the suggested history written into a lent column.
--- Definitions only; assumes nothing.
+-- A line written into a lent buffer from a place on. Definitions only; assumes nothing.
 use mathlib.Core.Bool.{cond}
 use mathlib.Core.List.{List, [], _∷_}
 use Prim.Native.Nat.{ℕ, _+_}
@@ -7,13 +6,8 @@ use lib.ListN.{length}
 use lib.Dec.{eqb}
 use Rattle.basics.specs.Tests.{unless, firstOf}
 use Rattle.basics.specs.Parts.{within, overlaid}
-use Rattle.landing.specs.declared.Stop.{Stop}
-use Rattle.model.specs.Answers.{Written, written}
-use Rattle.model.specs.Columns.{ledgerOf, refused}
-use Rattle.session.specs.declared.Armed.{Armed}
 use Rattle.lines.specs.declared.Line.{Line}
 use Rattle.lines.specs.declared.Line.the-variants.{Past, NotWritten}
-use Rattle.lines.specs.Lines.{Shown, sweepLine, suggested}
 
 -- what is answered, and the buffer then
 pub record Put : Type 0 where
@@ -30,15 +24,3 @@ putUnless number bytes at out =
 -- "13: lent columns shorter than the result", after 12: the bytes do not fit into the buffer from that place on
 abbrev pub put : (refusal : ℕ) → (bytes : List ℕ) → (at : ℕ) → (out : List ℕ) → Put
 put refusal bytes at out = putUnless (firstOf (refusal ∷ unless (within out at (length bytes)) 13 ∷ [])) bytes at out
-
--- a run whose ledger three columns hold
-abbrev pub shownOf : Armed → Stop → (operations : ℕ) → (ids states torn : List ℕ) → Shown
-shownOf armed stop operations is ss ts = record { injection = armed; stop = stop; operations = operations; ledger = ledgerOf is ss ts }
-
--- its line of `sweep`; columns that hold no ledger are refused with 12
-unfoldable pub sweepPut : (place : ℕ) → Armed → Stop → (operations : ℕ) → (ids states torn : List ℕ) → (at : ℕ) → (out : List ℕ) → Put
-sweepPut place armed stop operations is ss ts at out = put (refused is ss ts) (sweepLine place (shownOf armed stop operations is ss ts)) at out
-
--- the suggested history of the ledger that three columns hold, in a lent column
-unfoldable pub suggestedWritten : (ids states torn column : List ℕ) → Written
-suggestedWritten is ss ts column = written (refused is ss ts) (suggested (ledgerOf is ss ts)) column

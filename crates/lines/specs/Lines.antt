@@ -1,5 +1,5 @@
 -- Document 01, "Scripts and the two programs": the text of `sweep` and `judge`. Definitions only; assumes nothing.
-use mathlib.Core.Bool.{not, _&&_, cond}
+use mathlib.Core.Bool.{cond}
 use mathlib.Core.List.{List, [], _∷_, _++_, map}
 use Prim.Native.Nat.{ℕ, suc}
 use lib.ListN.{length}
@@ -11,13 +11,15 @@ use Rattle.landing.specs.declared.Stop.{Stop}
 use Rattle.landing.specs.declared.Stop.the-variants.{Running, PowerLost, CoreReset}
 use Rattle.model.specs.declared.Durability.{Durability}
 use Rattle.model.specs.declared.Durability.the-variants.{Attempted, PossiblyDurable, Acknowledged}
-use Rattle.model.specs.Ledger.{Entry, isCommitted, isTorn, ids, picked}
+use Rattle.model.specs.Ledger.{Entry, isTorn}
 use Rattle.oracle.specs.declared.Banks.the-variants.{Absent}
 use Rattle.oracle.specs.Verdict.{numberOf, verdict}
 use Rattle.session.specs.declared.Armed.{Armed}
 use Rattle.session.specs.declared.Armed.the-variants.{Nothing, At}
 use Rattle.text.specs.Numbers.{decimalOf}
 use Rattle.script.specs.Print.{joined}
+use Rattle.history.specs.History.{suggested}
+use Rattle.pieces.specs.Pieces.{letter}
 
 -- a run as it is printed: its injection, the session's stop, operations recorded, and the ledger
 pub record Shown : Type 0 where
@@ -25,10 +27,6 @@ pub record Shown : Type 0 where
   pub stop : Stop
   pub operations : ℕ
   pub ledger : List Entry
-
--- one letter as a field; "-" is 45
-abbrev pub letter : ℕ → List ℕ
-letter c = c ∷ []
 
 -- "kind (`-`, `p`, `w`, `f`)"
 abbrev pub letterOf : Interruption → ℕ
@@ -42,7 +40,7 @@ progressField None = letter 110
 progressField (Bytes count) = decimalOf count
 progressField Whole = letter 97
 
--- kind, index and progress; "both `-` in run 0"
+-- kind, index and progress; "both `-` in run 0" (`-` is 45)
 abbrev pub pointFields : Armed → List (List ℕ)
 pointFields Nothing = letter 45 ∷ letter 45 ∷ letter 45 ∷ []
 pointFields (At j) = letter (letterOf (j .interruption)) ∷ decimalOf (j .op) ∷ progressField (j .progress) ∷ []
@@ -70,10 +68,6 @@ line fields = joined fields ++ letter 10
 unfoldable pub sweepLine : (place : ℕ) → Shown → List ℕ
 sweepLine place r =
     line (decimalOf place ∷ (pointFields (r .injection) ++ (stopField (r .stop) ∷ decimalOf (r .operations) ∷ map entryField (r .ledger))))
-
--- "the suggested history: the ids of committed entries that are not torn, in ledger order"
-unfoldable pub suggested : List Entry → List ℕ
-suggested l = ids (picked (λ (e : Entry). isCommitted e && not (isTorn e)) l)
 
 -- "place, verdict and the suggested history .. a field each"
 abbrev pub judgedLine : (place number : ℕ) → (history : List ℕ) → List ℕ

@@ -35,8 +35,10 @@ use Rattle.script.specs.declared.Head.{Head}
 use Rattle.script.specs.Columns.{Columns}
 use Rattle.lines.specs.declared.Line.{Line}
 use Rattle.lines.specs.declared.Line.the-variants.{NotWritten}
-use Rattle.lines.specs.Lines.{suggested, judgedLine}
-use Rattle.lines.specs.Answers.{Put, put, sweepPut, suggestedWritten}
+use Rattle.history.specs.History.{suggested, suggestedWritten}
+use Rattle.lines.specs.Lines.{judgedLine}
+use Rattle.lines.specs.Answers.{Put, put}
+use Rattle.sweep_lines.specs.Answers.{sweepPut}
 use Rattle.armed_runs.specs.declared.Placed.{Placed}
 use Rattle.armed_runs.specs.declared.Placed.the-variants.{Run, NoRun}
 use Rattle.armed_runs.specs.Places.{placedAt}

@@ -18,7 +18,8 @@ use Rattle.ledger.specs.Ledger.{Entered}
 use Rattle.script.specs.declared.Head.{Head}
 use Rattle.script.specs.Columns.{Columns}
 use Rattle.lines.specs.Lines.{judgedLine}
-use Rattle.lines.specs.Answers.{Put, put, suggestedWritten}
+use Rattle.history.specs.History.{suggestedWritten}
+use Rattle.lines.specs.Answers.{Put, put}
 use Rattle.armed_runs.specs.declared.Placed.{Placed}
 use Rattle.harness_runs.specs.declared.RunAt.{RunAt}
 use Rattle.harness_runs.specs.Running.{RanAt}

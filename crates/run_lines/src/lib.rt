@@ -61,7 +61,7 @@ fn judged_line(
     ensures { λ r. ⌜ _≡_ {A = Put} (record { reply = r; out = now (out .exit) }) (judgePut place (now (ids .entry)) (now (states .entry)) (now (torn .entry)) at (now (out .entry))) ⌝ }
 {
     let mut history = [0u32; 512];
-    let listed = lines::suggested(ids, states, torn, &mut history);
+    let listed = history::suggested(ids, states, torn, &mut history);
     match listed {
         ListAnswer::ListRefused(number) => Line::NotWritten(number),
         ListAnswer::ListIs(count) => {
@@ -89,7 +89,7 @@ fn line_of(
     if judged {
         return judged_line(place, ids, states, torn, out, at);
     }
-    lines::sweep_line(place, armed, stop, operations, ids, states, torn, out, at)
+    sweep_lines::sweep_line(place, armed, stop, operations, ids, states, torn, out, at)
 }
 
 fn reply_of(line: Line) -> RunLine

@@ -6,7 +6,8 @@ use Rattle.basics.specs.Parts.{part, overlaid, onPart}
 use Rattle.basics.specs.Tests.{unless, refuseIf, firstOf}
 use Rattle.device.specs.Media.{anded, programmed, erased, anyPair, wouldSetABit, postimage, differsFrom, eraseWouldChange}
 use Rattle.digest.specs.Fnv.{mixed, digestOf}
-use Rattle.lines.specs.Lines.{sweepLine, suggested, judgeLine, linesFrom}
+use Rattle.history.specs.History.{suggested}
+use Rattle.lines.specs.Lines.{sweepLine, judgeLine, linesFrom}
 use Rattle.sweeps.specs.Sweep.{runBy, heldRun, pointsOf, sweptOf}
 use Rattle.inject.specs.Answers.{listTest}
 use Rattle.inject.specs.Ops.{opsOf, known}

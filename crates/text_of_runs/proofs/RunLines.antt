@@ -18,8 +18,10 @@ use Rattle.model.specs.Columns.{ledgerOf, refused}
 use Rattle.oracle.specs.declared.Banks.the-variants.{Absent}
 use Rattle.oracle.specs.declared.Verdict.{Verdict}
 use Rattle.oracle.specs.Verdict.{numberOf, verdict, verified}
-use Rattle.lines.specs.Lines.{Shown, sweepLine, suggested, judgedLine, judgeLine}
-use Rattle.lines.specs.Answers.{put, sweepPut, suggestedWritten}
+use Rattle.history.specs.History.{suggested, suggestedWritten}
+use Rattle.lines.specs.Lines.{Shown, sweepLine, judgedLine, judgeLine}
+use Rattle.lines.specs.Answers.{put}
+use Rattle.sweep_lines.specs.Answers.{sweepPut}
 
 picked-few : (test : Entry → Bool) (l : List Entry) → length (ids (picked test l)) ≤ length l
 unfolding ids picked

@@ -27,7 +27,9 @@ use Rattle.session.specs.declared.Armed.the-variants.{Nothing, At}
 use Rattle.text.specs.Numbers.{decimalIn, decimalOf}
 use Rattle.script.specs.Print.{joined}
 use Rattle.lines.specs.declared.Line.the-variants.{Past}
-use Rattle.lines.specs.Lines.{Shown, letter, progressField, pointFields, stopField, stateLetter, entryField, line, sweepLine, suggested, judgedLine, judgeLine, runsLine, refusedText}
+use Rattle.history.specs.History.{suggested}
+use Rattle.pieces.specs.Pieces.{letter}
+use Rattle.lines.specs.Lines.{Shown, progressField, pointFields, stopField, stateLetter, entryField, line, sweepLine, judgedLine, judgeLine, runsLine, refusedText}
 use Rattle.lines.specs.Answers.{put}
 use Rattle.text_of_runs.proofs.RunLines.{suggested-few}
 

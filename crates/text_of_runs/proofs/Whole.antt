@@ -26,7 +26,8 @@ use Rattle.script.specs.Columns.{Columns, bytesOf, written, after, readInto}
 use Rattle.script.specs.Held.{callsIn}
 use Rattle.script.proofs.Kept.{calls-kept}
 use Rattle.script.proofs.Rooms.{never-short}
-use Rattle.lines.specs.Lines.{Shown, sweepLine, judgeLine, suggested, runsLine, refusedText, linesFrom, sweepText, judgeText}
+use Rattle.history.specs.History.{suggested}
+use Rattle.lines.specs.Lines.{Shown, sweepLine, judgeLine, runsLine, refusedText, linesFrom, sweepText, judgeText}
 use Rattle.sweeps.specs.Sweep.{runBy, pointsOf, Swept, runs, notSwept, sweptOf, printedBy}
 use Rattle.sweeps.specs.Decided.{meets26, runShown, runsShown, decidedBy, decidedScript}
 use Rattle.sweeps.proofs.Decided.{swept-script}

@@ -16,7 +16,9 @@ use Rattle.script.specs.declared.Head.{Head}
 use Rattle.script.specs.declared.ReadScript.the-variants.{Read, Refused}
 use Rattle.script.specs.Columns.{Columns, after, readInto}
 use Rattle.lines.specs.Lines.{judgedLine, runsLine, refusedText}
-use Rattle.lines.specs.Answers.{put, sweepPut, suggestedWritten}
+use Rattle.history.specs.History.{suggestedWritten}
+use Rattle.lines.specs.Answers.{put}
+use Rattle.sweep_lines.specs.Answers.{sweepPut}
 use Rattle.sweeps.specs.Sweep.{sweepOutput, judgeOutput}
 use Rattle.harness.specs.declared.Opened.the-variants.{Runs, NotSwept}
 use Rattle.armed_runs.specs.declared.Placed.the-variants.{Run}

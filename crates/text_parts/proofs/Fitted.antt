@@ -17,7 +17,7 @@ use Rattle.basics.specs.Tests.{unless, firstOf}
 use Rattle.basics.specs.Parts.{overlaid}
 use Rattle.lines.specs.declared.Line.the-variants.{NotWritten}
 use Rattle.lines.specs.Answers.{Put, put}
-use Rattle.lines.proofs.Cursors.{overlaid-none, length-overlaid, overlaid-more}
+use Rattle.pieces.proofs.Cursors.{overlaid-none, length-overlaid, overlaid-more}
 use Rattle.text_of_runs.specs.Claim.{runLines}
 use Rattle.text_of_runs.proofs.Short.{put-past}
 use Rattle.run_lines.specs.RunLine.{RunPut, lineAs}

@@ -21,8 +21,8 @@ use Rattle.script.specs.declared.Head.{Head}
 use Rattle.script.specs.Columns.{Columns, After, readInto}
 use Rattle.lines.specs.Lines.{runsLine, refusedText}
 use Rattle.lines.specs.Answers.{Put, put}
-use Rattle.lines.proofs.Cursors.{length-overlaid, overlaid-more}
-use Rattle.lines.proofs.Texts.{flatten-append}
+use Rattle.pieces.proofs.Cursors.{length-overlaid, overlaid-more}
+use Rattle.pieces.proofs.Lists.{flatten-append}
 use Rattle.sweeps.specs.Sweep.{sweepOutput, judgeOutput}
 use Rattle.harness.specs.declared.Opened.{Opened}
 use Rattle.harness.specs.declared.Opened.the-variants.{Runs}

@@ -7,9 +7,9 @@ use lib.ListN.{length, drop}
 use lib.Dec.{leb}
 use borrow.Author.Needs.{needs}
 use Rattle.text.specs.Numbers.{decimalOf}
-use Rattle.lines.specs.Pieces.{tabbed}
-use Rattle.lines.proofs.Entries.{ids-size, ids-size-end}
-use Rattle.lines.proofs.Rooms.{fit-not, fit-start, fit-room, fit-more, fit-out, fit-end}
+use Rattle.pieces.specs.Pieces.{tabbed}
+use Rattle.pieces.proofs.Rooms.{fit-not, fit-start, fit-room, fit-more, fit-out, fit-end}
+use Rattle.lines.proofs.Ids.{ids-size, ids-size-end}
 use Rattle.lines.proofs.ids_fit.Statement.{statement}
 use Rattle.lines.proofs.ids_fit.Tie as tie
 

@@ -6,8 +6,8 @@ use native.Mathlib.Omega.{arith}
 use lib.ListN.{length, drop}
 use borrow.Author.Needs.{needs}
 use Rattle.text.specs.Numbers.{decimalOf}
-use Rattle.lines.specs.Pieces.{cursor, afterAll, tabbed}
-use Rattle.lines.proofs.Entries.{ids-put, ids-put-end}
+use Rattle.pieces.specs.Pieces.{cursor, afterAll, tabbed}
+use Rattle.lines.proofs.Ids.{ids-put, ids-put-end}
 use Rattle.lines.proofs.put_ids.Statement.{statement}
 use Rattle.lines.proofs.put_ids.Tie as tie
 

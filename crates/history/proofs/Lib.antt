@@ -1,0 +1,2 @@
+-- Laws that belong to no one function, each under what it is about.
+pub mod Kept

@@ -1,0 +1,2 @@
+-- Document 01, "Scripts and the two programs": the suggested history. Definitions only; assumes nothing.
+pub mod History

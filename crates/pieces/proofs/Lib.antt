@@ -1,0 +1,4 @@
+-- Laws that belong to no one function, each under what it is about.
+pub mod Lists
+pub mod Cursors
+pub mod Rooms

@@ -1,0 +1,2 @@
+-- Text written in pieces. Definitions only; assumes nothing.
+pub mod Pieces
