@@ -15,9 +15,9 @@ use lib.Dec.{eqb}
 use borrow.Author.Tests.{eqb-true, eqb-false}
 use Rattle.model.specs.Ledger.{Entry, ids, picked, lookup, passes}
 use Rattle.model.specs.Columns.{entryOf, ledgerOf}
-use Rattle.model.specs.Ids.{further, placeOf, Distinct}
-use Rattle.model.specs.declared.Place.{Place}
-use Rattle.model.specs.declared.Place.the-variants.{NoPlace, PlaceIs}
+use Rattle.id_columns.specs.Ids.{further, placeOf, Distinct}
+use Rattle.id_columns.specs.declared.Place.{Place}
+use Rattle.id_columns.specs.declared.Place.the-variants.{NoPlace, PlaceIs}
 
 -- ---- in columns
 

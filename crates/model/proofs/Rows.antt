@@ -4,19 +4,17 @@
 --     attempted-row, committed-row, acknowledged-row, torn-row     what a row's codes say
 --     committed-from, acknowledged-from                  the committed and the acknowledged ids as a loop picks them
 --     from-picked, from-left, from-end                   a turn of that loop, and its end
---     Turn, fill-turn, fill-end       a turn of a loop that writes those ids over a column, and its end
 -- Assumes nothing.
 use mathlib.Core.Path.{_≡_, refl, sym, ap, _∙_}
 use mathlib.Core.Bool.{Bool, true, false, cond, not, _&&_}
-use mathlib.Core.List.{List, [], _∷_, _++_}
-use Prim.Native.Nat.{ℕ, zero, suc, _+_, _-_, _≤_, _<_}
+use mathlib.Core.List.{List, [], _∷_}
+use Prim.Native.Nat.{ℕ, zero, suc, _+_, _≤_, _<_}
 use native.Mathlib.Numerals.{add-one}
 use native.Mathlib.Omega.{arith}
-use lib.ListN.{length, getD, take, drop, set, length-drop, drop-of-length-le}
-use lib.Seq.{take-all, drop-cons}
+use lib.ListN.{length, getD, drop, drop-of-length-le}
+use lib.Seq.{drop-cons}
 use lib.Dec.{eqb, leb}
 use borrow.Author.Tests.{le-leb, lt-leb, eqb-true, eqb-false}
-use Rattle.basics.proofs.Overwrites.{over-more}
 use Rattle.model.specs.Ledger.{Entry, codeOf, isAttempted, isCommitted, isAcknowledged, isTorn, ids, picked, committed, acknowledged}
 use Rattle.model.specs.Columns.{entryOf, ledgerOf}
 use Rattle.model.specs.Scans.{idsFrom}
@@ -122,41 +120,3 @@ module _ (k : ℕ) (is ss : List ℕ) (i : ℕ) (p : length ss ≡ length is) wh
   pub from-end : length is ≤ i → idsFrom k (drop i is) (drop i ss) ≡ []
   unfolding idsFrom
   from-end h = rw (drop-of-length-le is h)
-
--- ---- those ids written over a column: n of them are written, and the rows from i on have the others
-
-next-suc : (new : List ℕ) (n x : ℕ) (rest : List ℕ) → drop n new ≡ x ∷ rest → (n < length new) × (x ≡ getD new n 0) × (drop (suc n) new ≡ rest)
-next-suc [] n x rest e = absurd (none n e)
-  where
-    none : (n : ℕ) → drop {A = ℕ} n [] ≡ x ∷ rest → ⊥
-    none zero e = let z : _≡_ {A = ℕ} 0 1 = cc in omega arith
-    none (suc n) e = let z : _≡_ {A = ℕ} 0 1 = cc in omega arith
-next-suc (y ∷ ys) zero x rest e = (omega arith, cc, cc)
-next-suc (y ∷ ys) (suc n) x rest e =
-    let r : (n < length ys) × (x ≡ getD ys n 0) × (drop (suc n) ys ≡ rest) = next-suc ys n x rest e in
-    (omega arith, r .1, r .2)
-
-pub record Turn (k : ℕ) (is ss old now : List ℕ) (n i : ℕ) : Type 0 where
-  pub below : n < length (idsFrom k is ss)
-  pub stored : set now n (getD is i 0) ≡ take (n + 1) (idsFrom k is ss) ++ drop (n + 1) old
-  pub after : drop (n + 1) (idsFrom k is ss) ≡ idsFrom k (drop (i + 1) is) (drop (i + 1) ss)
-
-module _ (k : ℕ) (is ss old now : List ℕ) (n i : ℕ) (p : length ss ≡ length is)
-    (room : length (idsFrom k is ss) ≤ length old)
-    (so : now ≡ take n (idsFrom k is ss) ++ drop n old)
-    (left : drop n (idsFrom k is ss) ≡ idsFrom k (drop i is) (drop i ss)) where
-  pub fill-turn : i < length is → k ≤ getD ss i 0 → Turn k is ss old now n i
-  fill-turn h t =
-      let r : (n < length (idsFrom k is ss)) × (getD is i 0 ≡ getD (idsFrom k is ss) n 0) × (drop (suc n) (idsFrom k is ss) ≡ idsFrom k (drop (i + 1) is) (drop (i + 1) ss))
-      = next-suc (idsFrom k is ss) n (getD is i 0) (idsFrom k (drop (i + 1) is) (drop (i + 1) ss)) (left ∙ from-picked k is ss i p h t) in
-      record {
-        below = r .0;
-        stored = over-more (idsFrom k is ss) old now n (getD is i 0) 0 (r .0) (omega (arith, r .0)) so (r .1);
-        after = ap (λ (m : ℕ). drop m (idsFrom k is ss)) (add-one n) ∙ r .2;
-      }
-
-  pub fill-end : length is ≤ i → n ≤ length (idsFrom k is ss) → now ≡ idsFrom k is ss ++ drop (length (idsFrom k is ss)) old
-  fill-end h b =
-      let z : length (idsFrom k is ss) - n ≡ 0 = sym (length-drop n (idsFrom k is ss)) ∙ ap length (left ∙ from-end k is ss i p h) in
-      let e : n ≡ length (idsFrom k is ss) = omega arith in
-      so ∙ ap (λ (l : List ℕ). l ++ drop n old) (take-all n (idsFrom k is ss) (omega arith)) ∙ ap (λ (m : ℕ). idsFrom k is ss ++ drop m old) e

@@ -15,8 +15,8 @@ use lib.Dec.{eqb}
 use borrow.Author.Tests.{eq-eqb, eqb-true, not-true}
 use Rattle.model.specs.Ledger.{Entry, isAttempted, isCommitted, isTorn, ids, committed, acknowledged, torn, lookup, passes}
 use Rattle.model.specs.Columns.{ledgerOf, refused}
-use Rattle.model.specs.Ids.{has, Distinct}
-use Rattle.model.proofs.Members.{known, not-both}
+use Rattle.id_columns.specs.Ids.{has, Distinct}
+use Rattle.id_columns.proofs.Members.{known, not-both}
 use Rattle.model.proofs.Lookups.{looked-in, looked-only}
 use Rattle.oracle.specs.Verdict.{numberOf, firstBreach, seenBefore, firstFault, differs, firstLost, banksBreach, verdict, verified}
 use Rattle.oracle.specs.Legal.{Beginning, Legal}

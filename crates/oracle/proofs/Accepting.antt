@@ -14,8 +14,8 @@ use native.Mathlib.Omega.{arith}
 use lib.Dec.{eqb}
 use borrow.Author.Tests.{eq-eqb, eqb-true}
 use Rattle.model.specs.Ledger.{Entry, isAttempted, isTorn, lookup, passes}
-use Rattle.model.specs.Ids.{has, Distinct}
-use Rattle.model.proofs.Members.{in-has, has-in, out-has, not-both}
+use Rattle.id_columns.specs.Ids.{has, Distinct}
+use Rattle.id_columns.proofs.Members.{in-has, has-in, out-has, not-both}
 use Rattle.oracle.specs.Verdict.{numberOf, firstBreach, seenBefore, rising, faultOf, firstFault, differs, unrecovered, firstLost, banksBreach}
 use Rattle.oracle.specs.Legal.{Beginning, Holds, AbsentOrOne}
 use Rattle.oracle.specs.declared.RecordOption.{RecordOption}

@@ -5,7 +5,7 @@ use Prim.Native.Nat.{ℕ}
 use Rattle.basics.specs.Tests.{unless, firstOf}
 use Rattle.model.specs.Ledger.{ids, picked, committed, acknowledged, lookup}
 use Rattle.model.specs.Columns.{ledgerOf, allUpTo, refused}
-use Rattle.model.specs.Ids.{has}
+use Rattle.id_columns.specs.Ids.{has}
 use Rattle.oracle.specs.Verdict.{numberOf, Value, nothing, number, valuesOf, firstBreach, seenBefore, insert, rising, faultOf, firstFault, differs, unrecovered, firstLost, verdict, verified}
 use Rattle.oracle.specs.declared.Banks.{Banks}
 use Rattle.oracle.specs.declared.Banks.the-variants.{Absent, Count}

@@ -13,10 +13,10 @@ use borrow.Author.Tests.{eq-eqb, ne-eqb}
 use Rattle.basics.proofs.Scans.{at-step, at-end, take-more}
 use Rattle.model.specs.Ledger.{Entry, isAttempted, isTorn, lookup, passes}
 use Rattle.model.specs.Columns.{ledgerOf}
-use Rattle.model.specs.Ids.{has, placeOf}
+use Rattle.id_columns.specs.Ids.{has, placeOf}
 use Rattle.model.specs.Scans.{idsFrom}
-use Rattle.model.specs.declared.Place.{Place}
-use Rattle.model.specs.declared.Place.the-variants.{NoPlace, PlaceIs}
+use Rattle.id_columns.specs.declared.Place.{Place}
+use Rattle.id_columns.specs.declared.Place.the-variants.{NoPlace, PlaceIs}
 use Rattle.model.proofs.Rows.{attempted-row, torn-row, from-picked, from-left, from-end}
 use Rattle.model.proofs.Lookups.{LookedAt, looked-none, looked-at}
 use Rattle.oracle.specs.Verdict.{numberOf, firstBreach, seenBefore, faultOf, firstFault, differs, unrecovered, firstLost, banksBreach}

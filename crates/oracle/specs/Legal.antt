@@ -5,7 +5,7 @@ use mathlib.Core.Path.{_≡_}
 use mathlib.Core.List.{List, _++_, List·Memᴰ}
 use Prim.Native.Nat.{ℕ}
 use Rattle.model.specs.Ledger.{Entry, ids, committed, acknowledged, torn}
-use Rattle.model.specs.Ids.{Distinct}
+use Rattle.id_columns.specs.Ids.{Distinct}
 use Rattle.oracle.specs.declared.Banks.{Banks}
 use Rattle.oracle.specs.declared.Banks.the-variants.{Absent, Count}
 

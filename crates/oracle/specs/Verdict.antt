@@ -5,7 +5,7 @@ use Prim.Native.Nat.{ℕ, _+_}
 use lib.Dec.{eqb, leb}
 use Rattle.model.specs.Ledger.{Entry, isAttempted, isTorn, ids, committed, acknowledged, lookup, passes}
 use Rattle.model.specs.Columns.{ledgerOf, refused}
-use Rattle.model.specs.Ids.{has}
+use Rattle.id_columns.specs.Ids.{has}
 use Rattle.oracle.specs.declared.RecordOption.{RecordOption}
 use Rattle.oracle.specs.declared.RecordOption.the-variants.{NoRecord, Record}
 use Rattle.oracle.specs.declared.Banks.{Banks}

@@ -9,7 +9,7 @@ ghost use Rattle.model.specs.Columns.{ledgerOf};
 ghost use Rattle.model.specs.Scans.{idsFrom};
 ghost use Rattle.oracle.specs.Verdict.{numberOf, seenBefore, faultOf, firstFault, differs, firstLost, banksBreach, verdict, verified};
 ghost use Rattle.oracle.specs.Scans.{lesserOf, faultyId, leastFaulty};
-use model::Place;
+use id_columns::Place;
 
 // An id, or none.
 pub enum RecordOption {
@@ -78,7 +78,7 @@ fn first_repeat(ids: &[u32]) -> Verdict
     let mut i = 0;
     while i < ids.len() {
         let id = ids[i];
-        if model::contains(&ids[..i], id) {
+        if id_columns::contains(&ids[..i], id) {
             return Verdict::DuplicateRecordId(id);
         }
         i += 1;
@@ -91,7 +91,7 @@ fn fault_of(ids: &[u32], states: &[u8], torn: &[u8], id: u32) -> Verdict
     requires { ⌜ (length (now states) ≡ length (now ids)) × (length (now torn) ≡ length (now ids)) ⌝ }
     ensures { λ r. ⌜ r ≡ faultOf (ledgerOf (now (ids .entry)) (now (states .entry)) (now (torn .entry))) id ⌝ }
 {
-    let place = model::first_place(ids, id);
+    let place = id_columns::first_place(ids, id);
     match place {
         Place::NoPlace => Verdict::Accepted,
         Place::PlaceIs(i) => {
@@ -204,7 +204,7 @@ fn first_lost(ids: &[u32], states: &[u8], history: &[u32]) -> Verdict
             i += 1;
         } else {
             let id = ids[i];
-            if model::contains(history, id) {
+            if id_columns::contains(history, id) {
                 i += 1;
             } else {
                 return Verdict::LostAnAcknowledgedRecord(id);
@@ -221,7 +221,7 @@ fn first_unaccounted(dispatched: &[u32], history: &[u32]) -> Verdict
     let mut i = 0;
     while i < dispatched.len() {
         let intent = dispatched[i];
-        if model::contains(history, intent) {
+        if id_columns::contains(history, intent) {
             i += 1;
         } else {
             return Verdict::DispatchedWithoutADurableIntent(intent);

@@ -4,11 +4,11 @@
 //     tests/differential/run sample oracle > crates/oracle_cases/stdout
 // The tables and the order of the cases are those of `sample` in tests/differential/src/oracle.rs.
 ghost use Prim.Native.Nat.{_<_, _≤_};
+use first_entries::StateAnswer;
+use first_entries::TornAnswer;
 use libc::STDOUT_FILENO;
 use model::Durability;
 use model::ListAnswer;
-use model::StateAnswer;
-use model::TornAnswer;
 use oracle::Banks;
 use oracle::RecordOption;
 use oracle::Verdict;
@@ -230,8 +230,8 @@ fn print_banks(of: Banks) {
 // What a ledger answers about a record.
 fn record_case(ids: &[u32], states: &[u8], torn: &[u8], id: u32) {
     io::write_all(STDOUT_FILENO, b" R");
-    print_state(model::state(ids, states, torn, id));
-    print_torn(model::torn(ids, states, torn, id));
+    print_state(first_entries::state(ids, states, torn, id));
+    print_torn(first_entries::torn(ids, states, torn, id));
 }
 
 // A ledger: N entries, its committed (C) and acknowledged (A) ids, and state and torn of each record (R).
@@ -241,10 +241,10 @@ fn ledger_line(ids: &[u32], states: &[u8], torn: &[u8]) {
     print_count(model::len(ids, states, torn));
     let mut column = [0u32; 2];
     io::write_all(STDOUT_FILENO, b" C");
-    let committed = model::committed(ids, states, torn, &mut column);
+    let committed = ids_by_state::committed(ids, states, torn, &mut column);
     print_column(committed, &column);
     io::write_all(STDOUT_FILENO, b" A");
-    let acknowledged = model::acknowledged(ids, states, torn, &mut column);
+    let acknowledged = ids_by_state::acknowledged(ids, states, torn, &mut column);
     print_column(acknowledged, &column);
     record_case(ids, states, torn, RECORDS[0]);
     record_case(ids, states, torn, RECORDS[1]);

@@ -1,5 +1,5 @@
--- The layers `model` and `oracle` with their answers as cells of a reply: document 01's number, then for each of its values two
--- cells, whether there is one and the value. Definitions only; assumes nothing.
+-- The answers about a ledger and the verdicts as cells of a reply: document 01's number, then for each of its values two cells,
+-- whether there is one and the value. Definitions only; assumes nothing.
 use mathlib.Core.Bool.{Bool, true, false}
 use mathlib.Core.List.{List, [], _∷_, _++_, map}
 use Prim.Native.Nat.{ℕ, zero, suc}

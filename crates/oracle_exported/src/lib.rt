@@ -1,17 +1,19 @@
-// The layers `model` and `oracle` for callers in Rust or C, which tests/differential holds against the original Rust: numbers
-// and lent slices in, a lent reply filled with numbers. Each function makes one call and tells its answer whole: document
-// 01's number, 0 where nothing is refused, then for each of its values whether there is one and the value. A slice crosses
-// as a pointer, then a length; an array as a pointer.
+// The layers `model`, `first_entries`, `ids_by_state` and `oracle` for callers in Rust or C, which tests/differential holds
+// against the original Rust: numbers and lent slices in, a lent reply filled with numbers. Each function makes one call and
+// tells its answer whole: document 01's number, 0 where nothing is refused, then for each of its values whether there is one
+// and the value. A slice crosses as a pointer, then a length; an array as a pointer.
 ghost use mathlib.Core.Path.{_≡_};
 ghost use mathlib.Core.List.{[]};
 ghost use Rattle.model.specs.Ledger.{codeOf};
-ghost use Rattle.model.specs.Answers.{stateAsked, stateNumbers, tornAsked, tornNumbers, lenAsked, listNumbers, committedWritten, acknowledgedWritten};
+ghost use Rattle.model.specs.Answers.{lenAsked, listNumbers};
+ghost use Rattle.first_entries.specs.Answers.{stateAsked, stateNumbers, tornAsked, tornNumbers};
+ghost use Rattle.ids_by_state.specs.Answers.{committedWritten, acknowledgedWritten};
 ghost use Rattle.oracle.specs.Verdict.{verified};
 ghost use Rattle.oracle_exported.specs.Cells.{banksOf, verdictCells, answerCells};
+use first_entries::StateAnswer;
+use first_entries::TornAnswer;
 use model::Durability;
 use model::ListAnswer;
-use model::StateAnswer;
-use model::TornAnswer;
 use oracle::Banks;
 use oracle::RecordOption;
 use oracle::Verdict;
@@ -148,7 +150,7 @@ pub extern "C" fn model_state(
 )
     ensures { λ _. ⌜ now (reply .exit) ≡ answerCells (stateNumbers (stateAsked (now (ids .entry)) (now (states .entry)) (now (torn .entry)) id)) ⌝ }
 {
-    let state = model::state(ids, states, torn, id);
+    let state = first_entries::state(ids, states, torn, id);
     *reply = state_cells(state);
 }
 
@@ -157,7 +159,7 @@ pub extern "C" fn model_state(
 pub extern "C" fn model_torn(ids: &[u32], states: &[u8], torn: &[u8], id: u32, reply: &mut [u64; 3])
     ensures { λ _. ⌜ now (reply .exit) ≡ answerCells (tornNumbers (tornAsked (now (ids .entry)) (now (states .entry)) (now (torn .entry)) id)) ⌝ }
 {
-    let mark = model::torn(ids, states, torn, id);
+    let mark = first_entries::torn(ids, states, torn, id);
     *reply = torn_cells(mark);
 }
 
@@ -172,7 +174,7 @@ pub extern "C" fn model_committed(
 )
     ensures { λ _. ⌜ (now (reply .exit) ≡ answerCells (listNumbers (committedWritten (now (ids .entry)) (now (states .entry)) (now (torn .entry)) (now (column .entry)) .answer))) × (now (column .exit) ≡ committedWritten (now (ids .entry)) (now (states .entry)) (now (torn .entry)) (now (column .entry)) .column) ⌝ }
 {
-    let committed = model::committed(ids, states, torn, column);
+    let committed = ids_by_state::committed(ids, states, torn, column);
     *reply = list_cells(committed);
 }
 
@@ -187,7 +189,7 @@ pub extern "C" fn model_acknowledged(
 )
     ensures { λ _. ⌜ (now (reply .exit) ≡ answerCells (listNumbers (acknowledgedWritten (now (ids .entry)) (now (states .entry)) (now (torn .entry)) (now (column .entry)) .answer))) × (now (column .exit) ≡ acknowledgedWritten (now (ids .entry)) (now (states .entry)) (now (torn .entry)) (now (column .entry)) .column) ⌝ }
 {
-    let acknowledged = model::acknowledged(ids, states, torn, column);
+    let acknowledged = ids_by_state::acknowledged(ids, states, torn, column);
     *reply = list_cells(acknowledged);
 }
 

@@ -11,7 +11,7 @@ use lib.Dec.{eqb}
 use Rattle.model.specs.declared.Durability.{Durability}
 use Rattle.model.specs.declared.Durability.the-variants.{Attempted, PossiblyDurable, Acknowledged}
 use Rattle.model.specs.Ledger.{Entry, codeOf, isCommitted, isAcknowledged, isTorn, ids, picked, committed, acknowledged, torn}
-use Rattle.model.specs.Ids.{Distinct}
+use Rattle.id_columns.specs.Ids.{Distinct}
 use Rattle.oracle.specs.declared.Banks.{Banks}
 use Rattle.oracle.specs.Legal.{Legal, AbsentOrOne}
 use Rattle.oracle.proofs.Acceptance.{accepts-exactly}

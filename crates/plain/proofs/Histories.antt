@@ -13,8 +13,8 @@ use native.Mathlib.Nat.{not-suc-le-zero, le-of-suc-le-suc}
 use native.Mathlib.Omega.{arith}
 use lib.ListN.{length, take}
 use Rattle.model.specs.Ledger.{Entry, isAcknowledged, isTorn, ids, picked}
-use Rattle.model.specs.Ids.{Distinct}
-use Rattle.model.proofs.Members.{not-both}
+use Rattle.id_columns.specs.Ids.{Distinct}
+use Rattle.id_columns.proofs.Members.{not-both}
 use Rattle.model.proofs.Lookups.{in-picked, picked-head, picked-tail, picked-in}
 use Rattle.oracle.specs.Legal.{Holds, Without}
 use Rattle.plain.specs.Claims.{TornLast, anyAcknowledged, lastAcknowledged, untorn}

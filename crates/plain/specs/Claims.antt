@@ -10,7 +10,7 @@ use Rattle.storage.specs.declared.Geometry.{Geometry}
 use Rattle.inject.specs.declared.Interruption.the-variants.{Failure}
 use Rattle.inject.specs.declared.Injection.{Injection}
 use Rattle.model.specs.Ledger.{Entry, isAcknowledged, isCommitted, isTorn, picked, committed}
-use Rattle.model.specs.Ids.{Distinct}
+use Rattle.id_columns.specs.Ids.{Distinct}
 use Rattle.oracle.specs.declared.Banks.{Banks}
 use Rattle.oracle.specs.declared.Verdict.the-variants.{Accepted}
 use Rattle.oracle.specs.Verdict.{verdict}

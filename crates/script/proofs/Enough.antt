@@ -12,7 +12,7 @@ use borrow.Author.Tests.{leb-true}
 use Rattle.text.specs.Lines.{TextLine, ended, unended, ontoLine, linesOf, ontoField, fieldsOf}
 use Rattle.text.specs.Numbers.{Decimal, number, none, numberOf}
 use Rattle.text.specs.Pairs.{pairValues}
-use Rattle.text.proofs.Bytes.{pair-count}
+use Rattle.hex_pairs.proofs.Bytes.{pair-count}
 use Rattle.script.specs.declared.Head.{Head}
 use Rattle.script.specs.Calls.{Call, Meaning, call, malformed, beginWith, markWith, eraseWith, programWith, beginLine, endLine, markLine, programLine, eraseLine, barrierLine, isBytes, isKind, callOf, meaningOf, Reading, calls, faulty, callThen, onMeaning, readLines}
 use Rattle.script.specs.First.{FirstLine, given, noHead, firstOfLine, headTest}

@@ -12,7 +12,8 @@ use borrow.Rule.Slice.PartMut.{putMid}
 use Rattle.basics.specs.Parts.{part, overlaid}
 use Rattle.basics.proofs.Parts.{part-back}
 use Rattle.text.specs.Lines.{linesOf}
-use Rattle.text.specs.Pairs.{pairValues, over, decoded}
+use Rattle.text.specs.Pairs.{pairValues, over}
+use Rattle.hex_pairs.specs.Answers.{decoded}
 use Rattle.script.specs.declared.Line.{Line}
 use Rattle.script.specs.declared.Line.the-variants.{Call as Called, Faulty}
 use Rattle.script.specs.declared.Row.{Row}

@@ -15,12 +15,13 @@ use Rattle.storage.specs.declared.Geometry.{Geometry}
 use Rattle.storage.specs.declared.Validated.{Validated}
 use Rattle.storage.specs.Geometry.{anyZero, noPowerOfTwo, unnested, geometryOf, geometryTest}
 use Rattle.storage.specs.Answers.{numberOfValidated, answered}
-use Rattle.text.specs.declared.Number.{Number}
-use Rattle.text.specs.declared.Number.the-variants.{Value, NoNumber}
-use Rattle.text.specs.declared.Letter.{Letter}
-use Rattle.text.specs.declared.Letter.the-variants.{One, NoLetter}
-use Rattle.text.specs.Fields.{fieldTo, letterAt}
-use Rattle.text.specs.Numbers.{Decimal, number, none, numberOf, numberAt}
+use Rattle.read_fields.specs.declared.Number.{Number}
+use Rattle.read_fields.specs.declared.Number.the-variants.{Value, NoNumber}
+use Rattle.read_fields.specs.declared.Letter.{Letter}
+use Rattle.read_fields.specs.declared.Letter.the-variants.{One, NoLetter}
+use Rattle.text.specs.Fields.{fieldTo}
+use Rattle.text.specs.Numbers.{Decimal, number, none, numberOf}
+use Rattle.read_fields.specs.Answers.{letterAt, numberAt}
 use Rattle.script.specs.declared.Head.{Head}
 use Rattle.script.specs.Calls.{isKind}
 use Rattle.script.specs.First.{FirstLine, given, noHead, headIs, headWith, headed, headOf, headTest}

@@ -11,13 +11,15 @@ use lib.ListN.{length, getD, take, drop, drop-of-length-le}
 use lib.Dec.{eqb, leb}
 use borrow.Author.Tests.{ne-eqb, eqb-true, eqb-false, le-leb, lt-leb}
 use Rattle.basics.proofs.Scans.{at-step}
-use Rattle.text.specs.declared.Number.{Number}
-use Rattle.text.specs.declared.Number.the-variants.{Value, NoNumber}
-use Rattle.text.specs.declared.Pairs.{Pairs}
-use Rattle.text.specs.declared.Pairs.the-variants.{Paired, NoPairs}
+use Rattle.read_fields.specs.declared.Number.{Number}
+use Rattle.read_fields.specs.declared.Number.the-variants.{Value, NoNumber}
+use Rattle.hex_pairs.specs.declared.Pairs.{Pairs}
+use Rattle.hex_pairs.specs.declared.Pairs.the-variants.{Paired, NoPairs}
 use Rattle.text.specs.Fields.{fieldTo}
-use Rattle.text.specs.Numbers.{Decimal, number, none, numberOf, numberAt}
-use Rattle.text.specs.Pairs.{isPairs, pairValues, pairsAt}
+use Rattle.text.specs.Numbers.{Decimal, number, none, numberOf}
+use Rattle.text.specs.Pairs.{isPairs, pairValues}
+use Rattle.read_fields.specs.Answers.{numberAt}
+use Rattle.hex_pairs.specs.Answers.{pairsAt}
 use Rattle.script.specs.Calls.{Call, begin, end, mark, program, erase, barrier, Meaning, call, malformed, beginWith, markWith, eraseWith, programWith, isBytes, isKind, callOf}
 use Rattle.script.specs.Inner.{Cells, cells, broken, ontoCell, pushCell, cellsOf, inFront, meaningIn, Opened, rowOf, Taken}
 use Rattle.script.proofs.Told.{Inner, inner-value, inner-none, Last, last-value, last-none, PairsLast, pairs-value, pairs-none}

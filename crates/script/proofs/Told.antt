@@ -1,5 +1,5 @@
--- What the answers of `text` tell of a line: a number, a letter or pairs that were read up to a tab are a field before others, those that were
--- read up to an LF are the last field; and where none was read, that field is none.
+-- What the answers of `read_fields` and `hex_pairs` tell of a line: a number, a letter or pairs that were read up to a tab are a field before
+-- others, those that were read up to an LF are the last field; and where none was read, that field is none.
 -- Assumes nothing.
 use mathlib.Core.Path.{_≡_, refl, ap, sym, _∙_}
 use mathlib.Core.Bool.{Bool, true, false, cond, _&&_}
@@ -11,18 +11,20 @@ use lib.ListN.{length, take, drop, length-append, length-drop}
 use lib.Seq.{drop-drop, take-at}
 use lib.Dec.{eqb}
 use borrow.Author.Tests.{eqb-true}
-use Rattle.text.specs.declared.Number.{Number}
-use Rattle.text.specs.declared.Number.the-variants.{Value, NoNumber}
-use Rattle.text.specs.declared.Letter.{Letter}
-use Rattle.text.specs.declared.Letter.the-variants.{One, NoLetter}
-use Rattle.text.specs.declared.Pairs.{Pairs}
-use Rattle.text.specs.declared.Pairs.the-variants.{Paired, NoPairs}
-use Rattle.text.specs.Fields.{Field, field, missing, fieldTo, letterAt}
-use Rattle.text.specs.Numbers.{Decimal, number, none, numberOf, numberThen, numberAt}
-use Rattle.text.specs.Pairs.{allHex, isPairs, pairValues, pairsAt}
+use Rattle.read_fields.specs.declared.Number.{Number}
+use Rattle.read_fields.specs.declared.Number.the-variants.{Value, NoNumber}
+use Rattle.read_fields.specs.declared.Letter.{Letter}
+use Rattle.read_fields.specs.declared.Letter.the-variants.{One, NoLetter}
+use Rattle.hex_pairs.specs.declared.Pairs.{Pairs}
+use Rattle.hex_pairs.specs.declared.Pairs.the-variants.{Paired, NoPairs}
+use Rattle.text.specs.Fields.{Field, field, missing, fieldTo}
+use Rattle.text.specs.Numbers.{Decimal, number, none, numberOf}
+use Rattle.text.specs.Pairs.{allHex, isPairs, pairValues}
+use Rattle.read_fields.specs.Answers.{letterAt, numberThen, numberAt}
+use Rattle.hex_pairs.specs.Answers.{pairsAt}
 use Rattle.text.proofs.Fields.{field-splits}
 use Rattle.text.proofs.Plain.{Plain, both, number-plain, hex-plain}
-use Rattle.text.proofs.Bytes.{pair-count, pairs-append}
+use Rattle.hex_pairs.proofs.Bytes.{pair-count, pairs-append}
 use Rattle.script.specs.Inner.{Cells, cells, broken, cellsOf, inFront}
 use Rattle.script.proofs.Cells.{cells-last, cells-more, last-cell, more-cell}
 

@@ -10,7 +10,8 @@ use Rattle.basics.specs.Parts.{part, overlaid}
 use Rattle.storage.specs.declared.Geometry.{Geometry}
 use Rattle.text.specs.Lines.{linesOf}
 use Rattle.text.specs.Numbers.{number, numberOf}
-use Rattle.text.specs.Pairs.{pairValues, decoded}
+use Rattle.text.specs.Pairs.{pairValues}
+use Rattle.hex_pairs.specs.Answers.{decoded}
 use Rattle.script.specs.declared.Head.{Head}
 use Rattle.script.specs.declared.Line.{Line}
 use Rattle.script.specs.declared.Line.the-variants.{Call as Called, Faulty}

@@ -19,11 +19,11 @@ ghost use Rattle.script.specs.First.{headTest};
 ghost use Rattle.script.specs.Script.{scriptOf};
 ghost use Rattle.script.specs.Columns.{columns, written, roomFor, countOf, after, readInto};
 ghost use Rattle.script.specs.Inner.{Opened, Reads, ReadsUnits, ReadsHead, checkedFrom, Checks, Ready, callsRead, stored};
+use hex_pairs::Pairs;
+use read_fields::Letter;
+use read_fields::Number;
 use storage::Geometry;
 use text::LF;
-use text::Letter;
-use text::Number;
-use text::Pairs;
 use text::TAB;
 
 // A script above this many bytes is refused with 9.
@@ -136,7 +136,7 @@ fn begin_line(text: &[u8], from: usize) -> Line
     requires { ⌜ Opened (now text) from 66 9 ⌝ }
     ensures { λ r. ⌜ Reads (now (text .entry)) from r ⌝ }
 {
-    let id_read = text::read_number(text, from + 2, LF);
+    let id_read = read_fields::read_number(text, from + 2, LF);
     let Number::Value(id, next) = id_read else {
         return Line::Faulty;
     };
@@ -156,15 +156,15 @@ fn mark_line(text: &[u8], from: usize) -> Line
     requires { ⌜ Opened (now text) from 77 9 ⌝ }
     ensures { λ r. ⌜ Reads (now (text .entry)) from r ⌝ }
 {
-    let id_read = text::read_number(text, from + 2, TAB);
+    let id_read = read_fields::read_number(text, from + 2, TAB);
     let Number::Value(id, at) = id_read else {
         return Line::Faulty;
     };
-    let first_read = text::read_number(text, at, TAB);
+    let first_read = read_fields::read_number(text, at, TAB);
     let Number::Value(first, past) = first_read else {
         return Line::Faulty;
     };
-    let last_read = text::read_number(text, past, LF);
+    let last_read = read_fields::read_number(text, past, LF);
     let Number::Value(last, next) = last_read else {
         return Line::Faulty;
     };
@@ -184,11 +184,11 @@ fn erase_line(text: &[u8], from: usize) -> Line
     requires { ⌜ Opened (now text) from 69 9 ⌝ }
     ensures { λ r. ⌜ Reads (now (text .entry)) from r ⌝ }
 {
-    let offset_read = text::read_number(text, from + 2, TAB);
+    let offset_read = read_fields::read_number(text, from + 2, TAB);
     let Number::Value(offset, at) = offset_read else {
         return Line::Faulty;
     };
-    let length_read = text::read_number(text, at, LF);
+    let length_read = read_fields::read_number(text, at, LF);
     let Number::Value(len, next) = length_read else {
         return Line::Faulty;
     };
@@ -208,11 +208,11 @@ fn program_line(text: &[u8], from: usize) -> Line
     requires { ⌜ Opened (now text) from 80 9 ⌝ }
     ensures { λ r. ⌜ Reads (now (text .entry)) from r ⌝ }
 {
-    let offset_read = text::read_number(text, from + 2, TAB);
+    let offset_read = read_fields::read_number(text, from + 2, TAB);
     let Number::Value(offset, start) = offset_read else {
         return Line::Faulty;
     };
-    let bytes_read = text::read_pairs(text, start);
+    let bytes_read = hex_pairs::read_pairs(text, start);
     let Pairs::Paired(count, next) = bytes_read else {
         return Line::Faulty;
     };
@@ -263,19 +263,19 @@ fn read_line(text: &[u8], from: usize) -> Line
 fn read_units(text: &[u8], at: usize) -> Units
     ensures { λ r. ⌜ ReadsUnits (now (text .entry)) at r ⌝ }
 {
-    let capacity_read = text::read_number(text, at, TAB);
+    let capacity_read = read_fields::read_number(text, at, TAB);
     let Number::Value(capacity, after_capacity) = capacity_read else {
         return Units::NoUnits;
     };
-    let erase_read = text::read_number(text, after_capacity, TAB);
+    let erase_read = read_fields::read_number(text, after_capacity, TAB);
     let Number::Value(erase_size, after_erase) = erase_read else {
         return Units::NoUnits;
     };
-    let program_read = text::read_number(text, after_erase, TAB);
+    let program_read = read_fields::read_number(text, after_erase, TAB);
     let Number::Value(program_size, after_program) = program_read else {
         return Units::NoUnits;
     };
-    let read_read = text::read_number(text, after_program, TAB);
+    let read_read = read_fields::read_number(text, after_program, TAB);
     let Number::Value(read_size, next) = read_read else {
         return Units::NoUnits;
     };
@@ -292,7 +292,7 @@ fn read_units(text: &[u8], at: usize) -> Units
 fn read_head(text: &[u8]) -> First
     ensures { λ r. ⌜ ReadsHead (now (text .entry)) r ⌝ }
 {
-    let kind_read = text::read_letter(text, 0, TAB);
+    let kind_read = read_fields::read_letter(text, 0, TAB);
     let Letter::One(kind, at) = kind_read else {
         return First::NoHead;
     };
@@ -303,14 +303,14 @@ fn read_head(text: &[u8]) -> First
     let Units::Four(geometry, after_units) = units else {
         return First::NoHead;
     };
-    let rule_read = text::read_letter(text, after_units, TAB);
+    let rule_read = read_fields::read_letter(text, after_units, TAB);
     let Letter::One(rule, after_rule) = rule_read else {
         return First::NoHead;
     };
     if (rule != b'a') & (rule != b'r') {
         return First::NoHead;
     }
-    let mode_read = text::read_letter(text, after_rule, LF);
+    let mode_read = read_fields::read_letter(text, after_rule, LF);
     let Letter::One(mode, next) = mode_read else {
         return First::NoHead;
     };
@@ -415,7 +415,7 @@ fn store_bytes(text: &[u8], start: usize, pool: &mut [u8], used: usize, free: us
     if free == used {
         return;
     }
-    text::decode(text, start, &mut pool[used..free]);
+    hex_pairs::decode(text, start, &mut pool[used..free]);
 }
 
 // Stores a row for each call, and the bytes of all programs one after the other in the pool. The lines are sound and

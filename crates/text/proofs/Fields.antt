@@ -1,4 +1,4 @@
--- A field where it stands in a text: what each way out of `read_letter` answers, and how a field splits the text.
+-- A field where it stands in a text: by the byte at its place, and how it splits the text.
 --     field-out, field-step    past the text's end there is no field; at a byte, the field is by that byte
 --     field-splits             a field, the byte that ends it, and what follows, are the text
 -- Assumes nothing.
@@ -12,9 +12,7 @@ use lib.ListN.{length, getD, drop, drop-of-length-le}
 use lib.Dec.{eqb}
 use borrow.Author.Tests.{eq-eqb, ne-eqb, eqb-true}
 use Rattle.basics.proofs.Scans.{at-step}
-use Rattle.text.specs.declared.Letter.{Letter}
-use Rattle.text.specs.declared.Letter.the-variants.{One, NoLetter}
-use Rattle.text.specs.Fields.{Field, field, missing, onto, fieldTo, letterAt}
+use Rattle.text.specs.Fields.{Field, field, missing, onto, fieldTo}
 
 -- ---- the field at a place
 
@@ -55,31 +53,3 @@ field-splits-suc end (x ∷ xs) f e = splits-step (eqb x end) x end xs f (fieldT
 
 pub field-splits : (end : ℕ) (xs f : List ℕ) → fieldTo end xs ≡ field f → xs ≡ f ++ (end ∷ drop (length f + 1) xs)
 field-splits end xs f e = rw add-one (field-splits-suc end xs f e)
-
--- ---- read_letter
-
-two-long : (from x y : ℕ) (F : Field) → NoLetter ≡ letterAt from (onto x (onto y F))
-two-long from x y missing = refl
-two-long from x y (field f) = refl
-
-module _ (s : List ℕ) (from end : ℕ) where
-  pub letter-out : length s ≤ from → NoLetter ≡ letterAt from (fieldTo end (drop from s))
-  letter-out h = rw (field-out s from end h)
-
-  module _ (h : from < length s) where
-    pub letter-empty : getD s from 0 ≡ end → NoLetter ≡ letterAt from (fieldTo end (drop from s))
-    letter-empty q = rw (field-here s from end h q)
-
-    module _ (q : getD s from 0 ≡ end → ⊥) where
-      pub letter-cut : length s ≤ from + 1 → NoLetter ≡ letterAt from (fieldTo end (drop from s))
-      letter-cut k = rw (field-step s from end h q, field-out s (from + 1) end k)
-
-      module _ (k : from + 1 < length s) where
-        pub letter-long : (getD s (from + 1) 0 ≡ end → ⊥) → NoLetter ≡ letterAt from (fieldTo end (drop from s))
-        letter-long p = rw (field-step s from end h q, field-step s (from + 1) end k p) (two-long from (getD s from 0) (getD s (from + 1) 0) (fieldTo end (drop (from + 1 + 1) s)))
-
-        pub letter-one : getD s (from + 1) 0 ≡ end → One (getD s from 0) (from + 2) ≡ letterAt from (fieldTo end (drop from s))
-        letter-one p = rw (field-step s from end h q, field-here s (from + 1) end k p)
-
--- all of them, for `search (needs, letters)`
-pub ruleset letters = (letter-out, letter-empty, letter-cut, letter-long, letter-one)

@@ -1,8 +1,6 @@
 -- Laws that belong to no one function, each under what it is about.
 pub mod Fields
 pub mod Numbers
-pub mod Runs
-pub mod Bytes
 pub mod Decimals
 pub mod Plain
 pub mod ReadBack

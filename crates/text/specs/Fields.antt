@@ -2,11 +2,8 @@
 -- Definitions only; assumes nothing.
 use mathlib.Core.Bool.{cond}
 use mathlib.Core.List.{List, [], _∷_}
-use Prim.Native.Nat.{ℕ, _+_}
-use lib.ListN.{length}
+use Prim.Native.Nat.{ℕ}
 use lib.Dec.{eqb}
-use Rattle.text.specs.declared.Letter.{Letter}
-use Rattle.text.specs.declared.Letter.the-variants.{One, NoLetter}
 
 -- the bytes of a field, or that the byte that should end it is missing
 pub data Field : Type 0 where
@@ -22,10 +19,3 @@ onto x missing = missing
 unfoldable pub fieldTo : (end : ℕ) → List ℕ → Field
 fieldTo end [] = missing
 fieldTo end (x ∷ xs) = cond (eqb x end) (field []) (onto x (fieldTo end xs))
-
--- a field that is one byte, and the place past the byte that ends it; the field starts at `from`
-abbrev pub letterAt : (from : ℕ) → Field → Letter
-letterAt from (field []) = NoLetter
-letterAt from (field (x ∷ [])) = One x (from + 2)
-letterAt from (field (x ∷ y ∷ f)) = NoLetter
-letterAt from missing = NoLetter

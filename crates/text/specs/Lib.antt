@@ -4,4 +4,3 @@ pub mod Fields
 pub mod Numbers
 pub mod Pairs
 pub mod Printing
-pub mod Inner

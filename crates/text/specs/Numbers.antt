@@ -3,11 +3,7 @@
 use mathlib.Core.Bool.{Bool, true, false, cond, not, _&&_}
 use mathlib.Core.List.{List, [], _∷_, _++_}
 use Prim.Native.Nat.{ℕ, zero, suc, _+_, _-_, _*_, _/_, _%_}
-use lib.ListN.{length}
 use lib.Dec.{eqb, leb, ltb}
-use Rattle.text.specs.declared.Number.{Number}
-use Rattle.text.specs.declared.Number.the-variants.{Value, NoNumber}
-use Rattle.text.specs.Fields.{Field, field, missing}
 
 -- the largest u32
 abbrev pub largest : ℕ
@@ -47,16 +43,6 @@ pub data Decimal : Type 0 where
 
 unfoldable pub numberOf : List ℕ → Decimal
 numberOf f = cond (isNumber f) (number (valueOf f)) none
-
--- a number, and the place past the byte that ends it
-abbrev pub numberThen : Decimal → (next : ℕ) → Number
-numberThen (number v) next = Value v next
-numberThen none next = NoNumber
-
--- a field as a number; the field starts at `from`
-abbrev pub numberAt : (from : ℕ) → Field → Number
-numberAt from (field f) = numberThen (numberOf f) (from + length f + 1)
-numberAt from missing = NoNumber
 
 -- a number in decimal, in at most so many digits
 unfoldable pub decimalIn : (digits : ℕ) → ℕ → List ℕ

@@ -3,11 +3,8 @@
 use mathlib.Core.Bool.{Bool, true, false, cond, _&&_, _||_}
 use mathlib.Core.List.{List, [], _∷_, _++_}
 use Prim.Native.Nat.{ℕ, _+_, _-_, _*_, _/_, _%_, _<_}
-use lib.ListN.{length, take, drop}
+use lib.ListN.{length, drop}
 use lib.Dec.{eqb, leb, ltb}
-use Rattle.text.specs.declared.Pairs.{Pairs}
-use Rattle.text.specs.declared.Pairs.the-variants.{Paired, NoPairs}
-use Rattle.text.specs.Fields.{Field, field, missing}
 use Rattle.text.specs.Numbers.{isDigit}
 
 -- the bytes 'a' to 'f'
@@ -36,18 +33,9 @@ pairValues [] = []
 pairValues (h ∷ []) = []
 pairValues (h ∷ l ∷ r) = (hexOf h * 16 + hexOf l) ∷ pairValues r
 
--- how many pairs a field is, and the place past the byte that ends it; the field starts at `from`
-abbrev pub pairsAt : (from : ℕ) → Field → Pairs
-pairsAt from (field f) = cond (isPairs f) (Paired (length f / 2) (from + length f + 1)) NoPairs
-pairsAt from missing = NoPairs
-
 -- the front of a list replaced by as many new elements
 abbrev pub over : List ℕ → List ℕ → List ℕ
 over new old = new ++ drop (length new) old
-
--- the bytes that the pairs from a place of a text on stand for, stored from the front of a buffer on: as many as it holds
-abbrev pub decoded : (text : List ℕ) (from : ℕ) → List ℕ → List ℕ
-decoded text from out = over (take (length out) (pairValues (drop from text))) out
 
 -- numbers that are bytes
 abbrev pub AllBytes : List ℕ → Type 0

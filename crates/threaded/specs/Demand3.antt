@@ -6,7 +6,7 @@ use mathlib.Core.List.{List}
 use Prim.Native.Nat.{ℕ, _<_}
 use Rattle.inject.specs.declared.Injection.{Injection}
 use Rattle.model.specs.Ledger.{Entry}
-use Rattle.model.specs.Ids.{Distinct}
+use Rattle.id_columns.specs.Ids.{Distinct}
 use Rattle.session.specs.declared.Told.{Told}
 use Rattle.session.specs.declared.Armed.the-variants.{Nothing, At}
 use Rattle.plain.specs.Plain.{Call}

@@ -1,0 +1,3 @@
+-- Laws that belong to no one function, each under what it is about.
+pub mod Runs
+pub mod Bytes
