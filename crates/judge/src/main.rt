@@ -1,9 +1,12 @@
 // A script on standard input; on standard output the verdict and the suggested history of every run, or what refuses it
-// (document 01, "Scripts and the two programs"). 65,537 bytes are enough to know that a script is too long.
+// (document 01, "Scripts and the two programs"). A script that cannot be read to its end is not run.
 use libc::STDIN_FILENO;
+use printing::ENOUGH;
 
 fn main() {
-    let mut text = [0u8; 65537];
+    let mut text = [0u8; ENOUGH];
     let len = io::read_full(STDIN_FILENO, &mut text);
-    printing::print_judge(&text[..len]);
+    if printing::input_ended(len) {
+        printing::print_judge(&text[..len]);
+    }
 }

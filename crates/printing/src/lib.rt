@@ -1,13 +1,45 @@
-// `sweep` and `judge` on standard output: one part of the text after the other, each from the line where the one before ended. No
-// contract can say what is written. Each function answers how many bytes it handed over, which are as many as document 01's
-// text has, and what it hands over is what `text_parts` promises.
+// `sweep` and `judge` on standard output: one part of the text after the other, each from the line where the one before ended, as
+// far as standard output takes them. No contract can say what is written. Where all was taken, the parts' lengths add up to the
+// length of document 01's text, and each part is what `text_parts` promises.
+use libc::STDERR_FILENO;
+use libc::STDIN_FILENO;
 use libc::STDOUT_FILENO;
 use text_parts::Part;
 ghost use mathlib.Core.Path.{_≡_};
-ghost use lib.ListN.{length, drop};
+ghost use mathlib.Core.Bool.{true};
+ghost use lib.ListN.{drop};
 ghost use Rattle.sweeps.specs.Sweep.{sweepOutput, judgeOutput};
 ghost use Rattle.text_parts.specs.Parts.{partLeft, partOf};
-ghost use Rattle.printing.specs.Output.{linesFor, outputFor};
+ghost use Rattle.printing.specs.Output.{linesFor, outputFor, Whole};
+
+// One byte more than the longest script has: enough to know that a text is too long.
+pub const ENOUGH: usize = 65537;
+
+// Standard output took the whole text, of so many bytes; or it stopped taking, and the text is cut off.
+pub enum Printed {
+    All(u64),
+    Cut,
+}
+
+// Whether standard input has ended behind the bytes taken, or enough were taken. A read that fails is no end: a script that was not
+// read to its end is another script.
+pub fn input_ended(taken: usize) -> bool
+    ensures { λ r. ⌜ (taken ≡ 65537 → r ≡ true) ⌝ }
+{
+    if taken == ENOUGH {
+        return true;
+    }
+    let mut next = [0u8; 1];
+    let got = libc::read(STDIN_FILENO, &mut next);
+    if got == 0 {
+        return true;
+    }
+    io::write_all(
+        STDERR_FILENO,
+        b"standard input could not be read to its end\n",
+    );
+    false
+}
 
 // The part of a program's text from a line on.
 fn part_of(judged: bool, text: &[u8], from: u64, out: &mut [u8]) -> Part
@@ -19,9 +51,21 @@ fn part_of(judged: bool, text: &[u8], from: u64, out: &mut [u8]) -> Part
     text_parts::sweep_part(text, from, out)
 }
 
-// Prints a program's text, and answers how many bytes that were.
-fn print(judged: bool, text: &[u8]) -> u64
-    ensures { λ r. ⌜ r ≡ length (outputFor judged (now (text .entry))) ⌝ }
+// Writes bytes to standard output: whether it took them all.
+fn hand_over(bytes: &[u8]) -> bool {
+    let taken = io::write_all(STDOUT_FILENO, bytes);
+    if !taken {
+        io::write_all(
+            STDERR_FILENO,
+            b"standard output took no more, and the text is cut off\n",
+        );
+    }
+    taken
+}
+
+// Prints a program's text.
+fn print(judged: bool, text: &[u8]) -> Printed
+    ensures { λ r. ⌜ Whole r (outputFor judged (now (text .entry))) ⌝ }
 {
     let mut out = [0u8; 262144];
     let mut from: u64 = 0;
@@ -29,27 +73,30 @@ fn print(judged: bool, text: &[u8]) -> u64
     loop {
         let part = part_of(judged, text, from, &mut out);
         let Part::Lines(lines, bytes, left) = part else {
-            return printed;
+            // Never taken: there is room for every line.
+            return Printed::All(printed);
         };
-        io::write_all(STDOUT_FILENO, &out[..bytes]);
+        if !hand_over(&out[..bytes]) {
+            return Printed::Cut;
+        }
         printed += bytes as u64;
         if left == 0 {
-            return printed;
+            return Printed::All(printed);
         }
         from += lines;
     }
 }
 
-// Prints every run of a script with its ledger, or what refuses it; answers how many bytes that were.
-pub fn print_sweep(text: &[u8]) -> u64
-    ensures { λ r. ⌜ r ≡ length (sweepOutput (now (text .entry))) ⌝ }
+// Prints every run of a script with its ledger, or what refuses it.
+pub fn print_sweep(text: &[u8]) -> Printed
+    ensures { λ r. ⌜ Whole r (sweepOutput (now (text .entry))) ⌝ }
 {
     print(false, text)
 }
 
-// Prints every run of a script with the verdict on its suggested history, or what refuses it; answers how many bytes that were.
-pub fn print_judge(text: &[u8]) -> u64
-    ensures { λ r. ⌜ r ≡ length (judgeOutput (now (text .entry))) ⌝ }
+// Prints every run of a script with the verdict on its suggested history, or what refuses it.
+pub fn print_judge(text: &[u8]) -> Printed
+    ensures { λ r. ⌜ Whole r (judgeOutput (now (text .entry))) ⌝ }
 {
     print(true, text)
 }
