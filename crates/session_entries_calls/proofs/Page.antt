@@ -21,7 +21,7 @@ use Rattle.session_entries.specs.Entries.{withRows, movedTest, entriesNumber, t
 use Rattle.session_entries.proofs.Refused.{moved-fits}
 use Rattle.session_entries.proofs.Correspond.{again}
 use Rattle.session_entries.proofs.Recorded.{recorded-is-stored, stored-same, recorded-length}
-use Rattle.session_entries.proofs.Returned.{refused-entries, refused-columns, unrefused, entries-all, handed-on, handed-past, got-back, got-past, got-length, entries-of, columns-of}
+use Rattle.session_entries.proofs.Returned.{refused-entries, refused-columns, unrefused, entries-all, handed-on, handed-past, got-back, got-past, handed-length, got-length, entries-of, columns-of}
 use Rattle.session_entries_calls.proofs.Calls.{recordedBy, erase-ready, program-ready, barrier-ready, erase-records, program-records, barrier-records}
 use Rattle.session_entries_calls.specs.CarriesOver.{storedBy, entriesAfter, entriesThrough, withLog, Kept, keptOf, keptThrough, CarriesOver}
 
@@ -190,8 +190,10 @@ calls-return t s xs n log l same p even even′ =
 pub carries-over : CarriesOver
 carries-over = record {
   handed-on = handed-on;
+  as-many-entries = handed-length;
   past-the-columns = handed-past;
   got-back = got-back;
+  as-many-rows = got-length;
   past-the-entries = got-past;
   entries-refused = refused-entries;
   columns-refused = refused-columns;

@@ -62,10 +62,14 @@ keptThrough t s (x ∷ xs) log =
 
 pub record CarriesOver : Type 0 where
   -- 1. `to_entries` that answers 0 leaves a log that is the same as the columns for every row, and as it was past them; it may be longer.
+  -- It keeps its length, whatever is answered.
   pub handed-on : (l : Log) (log : List Entry) → entriesNumber l log ≡ 0 → Same (length (l .kinds)) (toEntries l log) l
+  pub as-many-entries : (l : Log) (log : List Entry) → length (toEntries l log) ≡ length log
   pub past-the-columns : (l : Log) (log : List Entry) (i : ℕ) → length (l .kinds) ≤ i → getD (toEntries l log) i noEntry ≡ getD log i noEntry
   -- 2. `to_columns` that answers 0 leaves columns that are the same as the log for every entry, and as they were past it; they may be longer.
+  -- They keep their lengths, whatever is answered.
   pub got-back : (log : List Entry) (l : Log) → columnsNumber log l ≡ 0 → Same (length log) log (toColumns log l)
+  pub as-many-rows : (log : List Entry) (l : Log) (n : ℕ) → OfLength n l → OfLength n (toColumns log l)
   pub past-the-entries : (log : List Entry) (l : Log) (i : ℕ) → length log ≤ i → rowOf (toColumns log l) i ≡ rowOf l i
   -- 3. Any other answer changes nothing.
   pub entries-refused : (l : Log) (log : List Entry) → (entriesNumber l log ≡ 0 → ⊥) → toEntries l log ≡ log
