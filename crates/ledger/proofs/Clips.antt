@@ -1,28 +1,26 @@
 -- The operations from a mark to the next, cut to those that there are.
---     lower-lt, lower-le, higher-lt, higher-le
+--     min-lt, min-le, higher-lt, higher-le
 --     clipped     the same elements, and the same behind them
 -- Assumes nothing.
 use mathlib.Core.Path.{_≡_, refl, sym, ap, _∙_}
 use mathlib.Core.Logic.{⊎-elim}
 use mathlib.Core.List.{List, []}
 use Rattle.ledger.specs.declared.Span.{Span}
-use Prim.Native.Nat.{ℕ, _-_, _≤_, _<_}
+use Prim.Native.Nat.{ℕ, _-_, _≤_, _<_, min}
 use native.Mathlib.Nat.{le-refl}
 use native.Mathlib.Omega.{arith}
 use lib.ListN.{length, take, drop, length-drop, drop-of-length-le}
 use lib.Seq.{take-all, take-nil, drop-nil}
 use borrow.Author.Tests.{lt-ltb, le-ltb}
 use Rattle.basics.proofs.Tests.{le-or-gt}
-use Rattle.ledger.specs.Scans.{lower, higher, spanOf}
+use Rattle.ledger.specs.Scans.{higher, spanOf}
 
 module _ (a b : ℕ) where
-  pub lower-lt : a < b → lower a b ≡ a
-  unfolding lower
-  lower-lt h = rw (lt-ltb a b h)
+  pub min-lt : a < b → min a b ≡ a
+  min-lt h = omega arith
 
-  pub lower-le : b ≤ a → lower a b ≡ b
-  unfolding lower
-  lower-le h = rw (le-ltb a b h)
+  pub min-le : b ≤ a → min a b ≡ b
+  min-le h = omega arith
 
   pub higher-lt : a < b → higher a b ≡ b
   unfolding higher
@@ -33,15 +31,15 @@ module _ (a b : ℕ) where
   higher-le h = rw (le-ltb a b h)
 
 -- the two ways to cut a span
-module _ (n from to start stop : ℕ) (e : start ≡ lower from n) (f : stop ≡ lower to n) where
+module _ (n from to start stop : ℕ) (e : start ≡ min from n) (f : stop ≡ min to n) where
   pub span-some : start < stop → _≡_ {A = Span} (record { start = start; stop = stop }) (spanOf n from to)
   span-some h =
-      let g : stop ≡ higher (lower from n) (lower to n) = sym (rw (← e, ← f) (higher-lt start stop h)) in
+      let g : stop ≡ higher (min from n) (min to n) = sym (rw (← e, ← f) (higher-lt start stop h)) in
       (λ i. record { start = e i; stop = g i })
 
   pub span-none : stop ≤ start → _≡_ {A = Span} (record { start = start; stop = start }) (spanOf n from to)
   span-none h =
-      let g : start ≡ higher (lower from n) (lower to n) = sym (rw (← e, ← f) (higher-le start stop h)) in
+      let g : start ≡ higher (min from n) (min to n) = sym (rw (← e, ← f) (higher-le start stop h)) in
       (λ i. record { start = e i; stop = g i })
 
 -- a record's operations counted from its mark, and cut to those that there are
@@ -91,22 +89,22 @@ module _ {A : Type 0} (l : List A) (from to : ℕ) where
       }
 
   -- in the words of the definition
-  pub clipped : (n : ℕ) → length l ≡ n → Clipped l from to (lower from n) (higher (lower from n) (lower to n))
+  pub clipped : (n : ℕ) → length l ≡ n → Clipped l from to (min from n) (higher (min from n) (min to n))
   clipped n e =
       ⊎-elim
-      (λ h. rw (← e, lower-le from (length l) (omega arith), higher-le (length l) (lower to (length l)) (under h)) (past (omega arith)))
+      (λ h. rw (← e, min-le from (length l) (omega arith), higher-le (length l) (min to (length l)) (under h)) (past (omega arith)))
       (λ h.
       ⊎-elim
-      (λ k. rw (← e, lower-lt from (length l) (omega arith), lower-le to (length l) (omega arith), higher-lt from (length l) (omega arith)) (long (omega arith) (omega arith)))
+      (λ k. rw (← e, min-lt from (length l) (omega arith), min-le to (length l) (omega arith), higher-lt from (length l) (omega arith)) (long (omega arith) (omega arith)))
       (λ k.
       ⊎-elim
-      (λ g. rw (← e, lower-lt from (length l) (omega arith), lower-lt to (length l) (omega arith), higher-le from to g) (early (omega arith) g))
-      (λ g. rw (← e, lower-lt from (length l) (omega arith), lower-lt to (length l) (omega arith), higher-lt from to g) (plain (omega arith) (omega arith) g))
+      (λ g. rw (← e, min-lt from (length l) (omega arith), min-lt to (length l) (omega arith), higher-le from to g) (early (omega arith) g))
+      (λ g. rw (← e, min-lt from (length l) (omega arith), min-lt to (length l) (omega arith), higher-lt from to g) (plain (omega arith) (omega arith) g))
       (le-or-gt to from))
       (le-or-gt n to))
       (le-or-gt n from)
     where
-      under : n ≤ from → lower to (length l) ≤ length l
+      under : n ≤ from → min to (length l) ≤ length l
       under h =
-          ⊎-elim (λ (k : length l ≤ to). rw (lower-le to (length l) k) (le-refl (length l))) (λ (k : to < length l). rw (lower-lt to (length l) k) (omega arith))
+          ⊎-elim (λ (k : length l ≤ to). rw (min-le to (length l) k) (le-refl (length l))) (λ (k : to < length l). rw (min-lt to (length l) k) (omega arith))
           (le-or-gt (length l) to)

@@ -7,7 +7,7 @@
 use mathlib.Core.Path.{_≡_, refl, sym, ap, ap₂, _∙_}
 use mathlib.Core.Bool.{Bool, true, false, _&&_, cond, not}
 use mathlib.Core.List.{List, [], _∷_, _++_, map}
-use Prim.Native.Nat.{ℕ, suc, _+_, _-_, _≤_}
+use Prim.Native.Nat.{ℕ, suc, _+_, _-_, _≤_, min}
 use native.Mathlib.Nat.{suc-ne-zero, suc-inj}
 use native.Mathlib.Numerals.{add-one}
 use native.Mathlib.Omega.{arith}
@@ -21,7 +21,7 @@ use Rattle.session.specs.Armed.{armedOn, isArmed}
 use Rattle.ledger.specs.declared.Facts.{Facts}
 use Rattle.ledger.specs.Records.{any, begin, end, RecordMark, Asked, nextPlace, recordAt, recordsTo, judged, entryBy, ledgerBy}
 use Rattle.ledger.specs.Ledger.{Row, rowsFrom, marksFrom, Entered, enteredOf, entered}
-use Rattle.ledger.specs.Scans.{begins, lastPlace, lastBarrier, lower, higher, armedIn, entryIn, entryAt, nextOf, Filled, filled, enter, fillFrom, entriesFrom}
+use Rattle.ledger.specs.Scans.{begins, lastPlace, lastBarrier, higher, armedIn, entryIn, entryAt, nextOf, Filled, filled, enter, fillFrom, entriesFrom}
 use Rattle.ledger.proofs.Places.{followed}
 use Rattle.ledger.proofs.Rows.{rows-part, rows-length, rows-changed, rows-written, rows-ordered, rows-armed}
 use Rattle.ledger.proofs.Clips.{Clipped, clipped}
@@ -71,8 +71,8 @@ module _ (a : Armed) (o : Bool) (ks cs xs : List ℕ) (e : length cs ≡ length 
       let rows = rowsFrom 0 ks cs xs in
       let n = length ks in
       let l : length rows ≡ n = rows-length 0 ks cs xs e g in
-      let start = lower from n in
-      let stop = higher start (lower to n) in
+      let start = min from n in
+      let stop = higher start (min to n) in
       let w : Clipped rows from to start stop = clipped rows from to n l in
       let below : start ≤ stop = w .order in
       let fits : stop ≤ n = omega (arith, w .fits, l) in

@@ -1,7 +1,7 @@
 -- What the private functions of `src/` answer. No public contract cites these. Assumes nothing.
 use mathlib.Core.Bool.{Bool, false, not, _&&_, cond}
 use mathlib.Core.List.{List, [], _∷_}
-use Prim.Native.Nat.{ℕ, suc, _+_, _-_}
+use Prim.Native.Nat.{ℕ, suc, _+_, _-_, min}
 use lib.ListN.{length, take, drop, set}
 use lib.Dec.{eqb, leb, ltb}
 use Rattle.basics.specs.Tests.{flag, unless, refuseIf, firstOf}
@@ -66,16 +66,13 @@ lastBarrier ks xs = lastPlace yes (ordering ks xs)
 
 -- ---- a record
 
--- of two numbers the lower, and the higher
-unfoldable pub lower : ℕ → ℕ → ℕ
-lower a b = cond (ltb a b) a b
-
+-- of two numbers the higher
 unfoldable pub higher : ℕ → ℕ → ℕ
 higher a b = cond (ltb a b) b a
 
 -- the operations of a record, of n in all
 abbrev pub spanOf : (n from to : ℕ) → Span
-spanOf n from to = record { start = lower from n; stop = higher (lower from n) (lower to n) }
+spanOf n from to = record { start = min from n; stop = higher (min from n) (min to n) }
 
 -- whether the operation that the injection is armed on is among those from start to stop
 abbrev pub armedIn : Armed → (start stop : ℕ) → Bool

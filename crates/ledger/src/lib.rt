@@ -6,6 +6,7 @@
 // What does not depend on the record is found once (`Facts`); then each record's own operations are looked at once. So the cost
 // grows with the operations, the marks and the records' own lengths.
 use basics::first_of;
+use basics::lower;
 use basics::store_u8;
 use basics::store_u32;
 use model::Durability;
@@ -24,7 +25,7 @@ ghost use Rattle.model.specs.Columns.{allUpTo};
 ghost use Rattle.session.specs.Log.{logOf, marksOf};
 ghost use Rattle.ledger.specs.Records.{judged};
 ghost use Rattle.ledger.specs.Ledger.{outstanding, entriesUneven, enteredOf, ledgered, ledgerCall};
-ghost use Rattle.ledger.specs.Scans.{lengthNumber, codeNumber, begins, lastBarrier, lower, spanOf, armedIn, scannedOf, entryAt, codesOf, nextOf, filled, entering, fillFrom, derivedBy};
+ghost use Rattle.ledger.specs.Scans.{lengthNumber, codeNumber, begins, lastBarrier, spanOf, armedIn, scannedOf, entryAt, codesOf, nextOf, filled, entering, fillFrom, derivedBy};
 
 // How many entries the ledger has, or document 01's number that refuses.
 pub enum Derived {
@@ -163,13 +164,6 @@ fn last_barrier(kinds: &[u8], answered: &[u8]) -> usize
 }
 
 // ---- one record
-
-// The lower of two numbers.
-fn lower(a: usize, b: usize) -> usize
-    ensures { λ r. ⌜ (r ≡ lower a b) × (r ≤ a) × (r ≤ b) ⌝ }
-{
-    if a < b { a } else { b }
-}
 
 // The operations from a mark to the next, of n in all. A next mark that stands earlier leaves none, and so does a mark that
 // stands past the operations.

@@ -19,6 +19,7 @@ ghost use Rattle.script.specs.First.{headTest};
 ghost use Rattle.script.specs.Script.{scriptOf};
 ghost use Rattle.script.specs.Columns.{columns, written, roomFor, countOf, after, readInto};
 ghost use Rattle.script.specs.Inner.{Opened, Reads, ReadsUnits, ReadsHead, checkedFrom, Checks, Ready, callsRead, stored};
+use basics::first_of;
 use hex_pairs::Pairs;
 use read_fields::Letter;
 use read_fields::Number;
@@ -333,16 +334,6 @@ fn size_refusal(capacity: u32) -> u32
         return 10;
     }
     0
-}
-
-// The first of two numbers that is not 0, or 0.
-fn first_of(earlier: u32, later: u32) -> u32
-    ensures { λ r. ⌜ r ≡ firstOf (earlier ∷ later ∷ []) ⌝ }
-{
-    if earlier != 0 {
-        return earlier;
-    }
-    later
 }
 
 // The number that refuses a geometry: 1 to 3, and then 10; or 0.
