@@ -29,14 +29,14 @@ pub enum Opened {
 fn is_behind(kind: u8, from: u32, to: u32, operations: usize) -> bool
     ensures { λ r. ⌜ r ≡ isBehind kind from to operations ⌝ }
 {
-    (kind == 77) & (((from as usize) < operations) | ((to as usize) < operations))
+    (kind == b'M') & (((from as usize) < operations) | ((to as usize) < operations))
 }
 
 // How many operations a row is: none, if it is a mark.
 fn operations_in(kind: u8) -> usize
     ensures { λ r. ⌜ (r ≡ opsIn kind) × (r ≤ 1) ⌝ }
 {
-    if (kind == 66) | (kind == 78) | (kind == 77) {
+    if (kind == b'B') | (kind == b'N') | (kind == b'M') {
         0
     } else {
         1

@@ -122,6 +122,7 @@ pub fn run_at(
         places,
     );
     let Ran::Done(counters, failed) = ran else {
+        // Never taken: what refuses was tested above.
         return RunAt::NotRun(13);
     };
     let derived = ledger::ledger(

@@ -1,4 +1,4 @@
--- Document 01: a finished run held to the fault-free one. A buyer reads `Held`; `Scans` has what only private contracts cite.
+-- Document 01: a finished run held to the fault-free one. A reader reads `Held`; `Scans` has what only private contracts cite.
 -- Definitions only; assumes nothing.
 pub mod Held
 pub mod Scans

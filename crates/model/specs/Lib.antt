@@ -1,4 +1,4 @@
--- The ledger's definitions. A buyer reads `Ledger`, `Columns` and `Answers`; `Scans` has what only private contracts cite.
+-- The ledger's definitions. A reader reads `Ledger`, `Columns` and `Answers`; `Scans` has what only private contracts cite.
 -- Assumes nothing.
 pub mod Ledger
 pub mod Columns

@@ -228,6 +228,7 @@ pub fn replay(
         places,
     );
     let Started::Fresh(fresh) = started else {
+        // Never taken: what refuses was tested above.
         return Derived::NotDerived(13);
     };
     let counters = run_calls(

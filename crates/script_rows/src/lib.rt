@@ -14,7 +14,12 @@ ghost use Rattle.script_rows.specs.Rows.{isLetter, allLetters, runConten
 fn is_letter(kind: u8) -> bool
     ensures { λ r. ⌜ r ≡ isLetter kind ⌝ }
 {
-    (kind == 66) | (kind == 78) | (kind == 77) | (kind == 80) | (kind == 69) | (kind == 83)
+    (kind == b'B')
+        | (kind == b'N')
+        | (kind == b'M')
+        | (kind == b'P')
+        | (kind == b'E')
+        | (kind == b'S')
 }
 
 // Whether every row has the letter of a call.
@@ -49,7 +54,7 @@ fn run_contents(
     if !all_letters(&kinds[..n]) {
         return 12;
     }
-    let outside = any_outside(80, &kinds[..n], &seconds[..n], &starts[..n], pool.len());
+    let outside = any_outside(b'P', &kinds[..n], &seconds[..n], &starts[..n], pool.len());
     if short | (kinds.len() < rows) | outside {
         13
     } else {

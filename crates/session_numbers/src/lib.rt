@@ -1,8 +1,8 @@
-// The session's values as numbers, for the boundary to Rust or C (`session_exported`, `session_marks_exported`). What the start
-// was told crosses as ten numbers (`told`): the four units, the bit rule, whether an injection is armed, and its operation, kind of
-// progress, byte count and interruption. The counters cross as six (`state`): operations, marks, the stop's number, whether the
-// injection fired, and the place and length of what was withheld. A code without a meaning has a decided one, and a number that
-// is not there is 0 (specs/Numbers.antt).
+// The session's values as numbers, for the boundary to Rust or C (the `_exported` crates of session, marks, ledger, held and
+// replay). What the start was told crosses as ten numbers (`told`): the four units, the bit rule, whether an injection is armed,
+// and its operation, kind of progress, byte count and interruption. The counters cross as six (`state`): operations, marks, the
+// stop's number, whether the injection fired, and the place and length of what was withheld. A code without a meaning has a
+// decided one, and a number that is not there is 0 (specs/Numbers.antt).
 use basics::store_u64;
 use device::OneWayBits;
 use inject::Injection;

@@ -18,9 +18,9 @@ fn letter_of(interruption: Interruption) -> u8
     ensures { λ r. ⌜ r ≡ letterOf interruption ⌝ }
 {
     match interruption {
-        Interruption::PowerLoss => 112,
-        Interruption::Watchdog => 119,
-        Interruption::Failure => 102,
+        Interruption::PowerLoss => b'p',
+        Interruption::Watchdog => b'w',
+        Interruption::Failure => b'f',
     }
 }
 
@@ -28,9 +28,9 @@ fn put_progress(progress: Progress, out: &mut [u8], at: usize) -> usize
     ensures { λ r. ⌜ cursor r (now (out .exit)) ≡ afterAll (letter 9 ∷ progressField progress ∷ []) (cursor at (now (out .entry))) ⌝ }
 {
     match progress {
-        Progress::None => put_letter(110, out, at),
+        Progress::None => put_letter(b'n', out, at),
         Progress::Bytes(count) => put_field(count as u64, out, at),
-        Progress::Whole => put_letter(97, out, at),
+        Progress::Whole => put_letter(b'a', out, at),
     }
 }
 
@@ -50,9 +50,9 @@ fn put_point(armed: Armed, out: &mut [u8], at: usize) -> usize
 {
     match armed {
         Armed::Nothing => {
-            let kind = put_letter(45, out, at);
-            let index = put_letter(45, out, kind);
-            put_letter(45, out, index)
+            let kind = put_letter(b'-', out, at);
+            let index = put_letter(b'-', out, kind);
+            put_letter(b'-', out, index)
         }
         Armed::At(injection) => {
             let interruption = injection.interruption;
@@ -83,9 +83,9 @@ fn stop_letter(stop: Stop) -> u8
     ensures { λ r. ⌜ letter r ≡ stopField stop ⌝ }
 {
     match stop {
-        Stop::Running => 45,
-        Stop::PowerLost => 112,
-        Stop::CoreReset => 119,
+        Stop::Running => b'-',
+        Stop::PowerLost => b'p',
+        Stop::CoreReset => b'w',
     }
 }
 

@@ -32,12 +32,12 @@ fn state_letter(state: u8) -> u8
     ensures { λ r. ⌜ r ≡ stateLetter (stateOf state) ⌝ }
 {
     if state == 0 {
-        return 97;
+        return b'a';
     }
     if state == 1 {
-        return 100;
+        return b'd';
     }
-    107
+    b'k'
 }
 
 // Torn is dropped where the state is attempted.
@@ -55,7 +55,7 @@ fn put_entry(id: u32, state: u8, torn: u8, out: &mut [u8], at: usize) -> usize
     let named = put_field(id as u64, out, at);
     let stated = put_byte(letter, out, named);
     if marked {
-        return put_byte(116, out, stated);
+        return put_byte(b't', out, stated);
     }
     stated
 }

@@ -329,7 +329,7 @@ fn refused_part(number: u32, line: u32, from: u64, out: &mut [u8]) -> Part
     }
 }
 
-// The part of a read script's sweep; what refuses the sweep is in no line.
+// The part of a read script's sweep. A sweep that is refused names line 0.
 fn swept_part(
     judged: bool,
     from: u64,

@@ -57,16 +57,16 @@ fn line_call(
     requires { ⌜ (eqb kind 80 && ltb (length (now pool)) (start + second)) ≡ false ⌝ }
     ensures { λ r. ⌜ answeredOf r (now (media .exit)) (now (copy .exit)) (logOf (now (ops .exit)) (now (spans .exit)) (now (sizes .exit)) (now (digests .exit)) (now (changed .exit)) (now (answered .exit))) (marksOf (now (marks .exit)) (now (named .exit)) (now (places .exit))) ≡ lineAnswered told (sessionOf counters (now (media .entry)) (now (copy .entry)) (logOf (now (ops .entry)) (now (spans .entry)) (now (sizes .entry)) (now (digests .entry)) (now (changed .entry)) (now (answered .entry))) (marksOf (now (marks .entry)) (now (named .entry)) (now (places .entry)))) (callFrom kind first second third start (now (pool .entry))) ⌝ }
 {
-    if kind == 66 {
+    if kind == b'B' {
         return session_marks::begin_record(counters, first, marks, named, places);
     }
-    if kind == 78 {
+    if kind == b'N' {
         return session_marks::end_record(counters, marks, named, places);
     }
-    if kind == 77 {
+    if kind == b'M' {
         return session_marks::mark_operations(counters, first, second, third, marks, named, places);
     }
-    if kind == 80 {
+    if kind == b'P' {
         let from = start as usize;
         let to = from + second as usize;
         return session_program::program(
@@ -84,7 +84,7 @@ fn line_call(
             answered,
         );
     }
-    if kind == 69 {
+    if kind == b'E' {
         return session_erase::erase(
             told,
             counters,
@@ -247,6 +247,7 @@ pub fn run_script(
         places,
     );
     let Started::Fresh(fresh) = started else {
+        // Never taken: what refuses was tested above.
         return Ran::NotRun(13);
     };
     device::fill_erased(copy);
