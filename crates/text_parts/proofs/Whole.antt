@@ -10,7 +10,8 @@ use mathlib.Core.List.{List, [], _∷_, _++_, flatten, List·Memᴰ·head, List�
 use Prim.Native.Nat.{ℕ, zero, suc, _+_, _-_, _*_, _≤_, _<_, zero-le}
 use native.Mathlib.Nat.{add-zero, sub-zero, zero-sub, suc-ne-zero, not-suc-le-zero, le-of-suc-le-suc, suc-sub-suc, le-trans}
 use native.Mathlib.Omega.{arith}
-use lib.ListN.{length, take, drop, length-append, drop-of-length-le}
+use lib.ListN.{length, take, drop, length-append, length-drop, drop-of-length-le}
+use lib.Seq.{take-append-seam}
 use lib.Dec.{leb}
 use borrow.Author.Tests.{lt-ltb, le-ltb, ne-eqb}
 use Rattle.basics.specs.Parts.{overlaid}
@@ -36,7 +37,7 @@ use Rattle.run_lines.specs.RunLine.{RunPut, lineAs, zeros, freshLog, freshMarks
 use Rattle.run_lines.proofs.Whole.{zeros-long, desk, line-at}
 use Rattle.text_parts.specs.declared.Part.{Part}
 use Rattle.text_parts.specs.declared.Part.the-variants.{Lines, NoRoom}
-use Rattle.text_parts.specs.Parts.{fitting, noneFits, PartLeft, partLeft, partWith, partOf, Parts, AllParts}
+use Rattle.text_parts.specs.Parts.{fitting, noneFits, PartLeft, partLeft, partWith, partOf, inTurn, Parts, AllParts}
 use Rattle.text_parts.specs.Inner.{FillLeft, filledAt, fillRuns, partReply, partAfter, partFirst, firstPart, runsPart, runsOf, openOn, openedPart, sweptPart, freshColumns, readPart, partCall}
 use Rattle.text_parts.proofs.Fitted.{fit-first, fit-before, none-fits, partBy, reply-is, put-none, over-front, reached, fills}
 
@@ -252,6 +253,42 @@ flat-short (x ∷ xs) e =
     let l : length (x ++ flatten xs) ≡ length x + length (flatten xs) = length-append x (flatten xs) in
     omega arith
 
+each-drop : (n : ℕ) (ls : List (List ℕ)) → Each Short ls → Each Short (drop n ls)
+each-drop zero ls e = e
+each-drop (suc n) [] e = e
+each-drop (suc n) (x ∷ xs) e = each-drop n xs (λ y m. e y (List·Memᴰ·tail m))
+
+-- the first part, and the parts after it
+module _ (n : ℕ) (ls : List (List ℕ)) (out : List ℕ) (short : Each Short ls) (h : 11915 ≤ length out) where
+  abbrev fit : List (List ℕ)
+  fit = fitting (length out) ls
+
+  abbrev then : List ℕ
+  then = flatten fit ++ drop (length (flatten fit)) out
+
+  turn-is : inTurn (suc n) ls out ≡ flatten fit ++ inTurn n (drop (length fit) ls) then
+  unfolding inTurn partOf
+  turn-is = rw (some-fit 0 ls (length out) short h, take-append-seam (flatten fit) (drop (length (flatten fit)) out))
+
+  then-long : 11915 ≤ length then
+  then-long =
+      let l : length then ≡ length (flatten fit) + length (drop (length (flatten fit)) out) = length-append (flatten fit) (drop (length (flatten fit)) out) in
+      let d : length (drop (length (flatten fit)) out) ≡ length out - length (flatten fit) = length-drop (length (flatten fit)) out in
+      omega arith
+
+  fewer : length ls ≤ suc n → length (drop (length fit) ls) ≤ n
+  fewer k = ⊎-elim (λ z. omega (arith, length-drop (length fit) ls)) (λ b. omega (arith, length-drop (length fit) ls, room-from 0 ls (length out) short h b)) (le-or-gt (length ls) 0)
+
+turns-all : (n : ℕ) (ls : List (List ℕ)) (out : List ℕ) → Each Short ls → 11915 ≤ length out → length ls ≤ n → inTurn n ls out ≡ flatten ls
+unfolding inTurn flatten
+turns-all zero [] out e h k = refl
+turns-all zero (x ∷ xs) out e h k = absurd (not-suc-le-zero k)
+turns-all (suc n) ls out e h k =
+    let fit : List (List ℕ) = fitting (length out) ls in
+    turn-is n ls out e h
+    ∙ ap (λ (x : List ℕ). flatten fit ++ x) (turns-all n (drop (length fit) ls) (flatten fit ++ drop (length (flatten fit)) out) (each-drop (length fit) ls e) (then-long n ls out e h) (fewer n ls out e h k))
+    ∙ sym (flatten-append fit (drop (length fit) ls)) ∙ ap flatten (fit-before ls (length out))
+
 module _ (ls : List (List ℕ)) (text : List ℕ) (f : flatten ls ≡ text) (few : length ls ≤ 50337796) (short : Each Short ls) where
   part-fits : (from : ℕ) (out : List ℕ) → 11915 ≤ length out → partOf (drop from ls) out ≡ partWith (drop from ls) (fitting (length out) (drop from ls)) out
   unfolding partOf
@@ -268,6 +305,7 @@ module _ (ls : List (List ℕ)) (text : List ℕ) (f : flatten ls ≡ text) (few
       sym (flatten-append (fitting (length out) (drop from ls)) (drop (length (fitting (length out) (drop from ls))) (drop from ls)))
           ∙ ap flatten (fit-before (drop from ls) (length out)),
     );
+    in-turn = λ turns out h k. turns-all turns ls out short h k ∙ f;
   }
 
 one-part : (x text : List ℕ) (ls : List (List ℕ)) → ls ≡ x ∷ [] → text ≡ flatten (x ∷ []) → Short x → Parts ls text

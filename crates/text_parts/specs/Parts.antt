@@ -3,8 +3,8 @@
 use mathlib.Core.Path.{_≡_}
 use mathlib.Core.Bool.{Bool, false, cond}
 use mathlib.Core.List.{List, [], _∷_, _++_, flatten}
-use Prim.Native.Nat.{ℕ, _-_, _≤_, _<_}
-use lib.ListN.{length, drop}
+use Prim.Native.Nat.{ℕ, zero, suc, _-_, _≤_, _<_}
+use lib.ListN.{length, take, drop}
 use lib.Dec.{leb, ltb}
 use Rattle.sweeps.specs.Sweep.{sweepOutput, judgeOutput}
 use Rattle.text_of_runs.specs.Printout.{sweepLines, judgeLines}
@@ -41,9 +41,25 @@ partOf ls out = cond (noneFits (length out) ls) (partLeft (NoRoom 13) out) (part
 
 -- ---- parts one after another
 
+-- what a part tells: how many lines it has, and their bytes
+abbrev pub linesIn : Part → ℕ
+linesIn (Lines count bytes left) = count
+linesIn (NoRoom number) = 0
+
+abbrev pub bytesIn : Part → (out : List ℕ) → List ℕ
+bytesIn (Lines count bytes left) out = take bytes out
+bytesIn (NoRoom number) out = []
+
+-- the bytes of so many parts asked for one after another, each from the line after the last of the one before, all into one buffer
+unfoldable pub inTurn : (turns : ℕ) → (ls : List (List ℕ)) → (out : List ℕ) → List ℕ
+inTurn zero ls out = []
+inTurn (suc n) ls out =
+    let p : PartLeft = partOf ls out in
+    bytesIn (p .reply) (p .out) ++ inTurn n (drop (linesIn (p .reply)) ls) (p .out)
+
 -- What holds of the lines `ls` of a program whose text is `text`: put together they are the text; there are so few, and it is so short;
 -- a buffer of 11,915 bytes has room for any of them; and so the text from a line on is what a part holds, followed by the text from the
--- first line after it on.
+-- first line after it on. All parts in turn, as many as there are lines or more, are the text.
 pub record Parts (ls : List (List ℕ)) (text : List ℕ) : Type 0 where
   pub together : flatten ls ≡ text
   pub not-many : length ls ≤ 50337796
@@ -52,6 +68,7 @@ pub record Parts (ls : List (List ℕ)) (text : List ℕ) : Type 0 where
   pub goes-on : (from : ℕ) (out : List ℕ) → 11915 ≤ length out
       → let fit : List (List ℕ) = fitting (length out) (drop from ls) in
       (partOf (drop from ls) out ≡ partWith (drop from ls) fit out) × (flatten fit ++ flatten (drop (length fit) (drop from ls)) ≡ flatten (drop from ls))
+  pub in-turn : (turns : ℕ) (out : List ℕ) → 11915 ≤ length out → length ls ≤ turns → inTurn turns ls out ≡ text
 
 -- The claim, for every text.
 abbrev pub AllParts : Type 0
