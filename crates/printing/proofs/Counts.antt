@@ -4,7 +4,6 @@
 --     goes-on          what was printed, and the text from the next line on, are all of it
 --     is-all           the last part
 --     fewer            fewer lines are left
---     all-taken        what is answered where all was taken, and cut-short where not
 -- Assumes nothing.
 use mathlib.Core.Path.{_≡_, refl, sym, ap, _∙_}
 use mathlib.Core.Bool.{Bool, true, false, cond}
@@ -19,14 +18,7 @@ use Rattle.text_parts.specs.declared.Part.{Part}
 use Rattle.text_parts.specs.declared.Part.the-variants.{Lines, NoRoom}
 use Rattle.text_parts.specs.Parts.{fitting, PartLeft, partLeft, partOf, Parts}
 use Rattle.text_parts.proofs.Whole.{all-parts}
-use Rattle.printing.specs.declared.Printed.the-variants.{All, Cut}
-use Rattle.printing.specs.Output.{Whole, linesFor, outputFor}
-
-pub all-taken : (bytes : ℕ) (text : List ℕ) → bytes ≡ length text → Whole (All bytes) text
-all-taken bytes text e n q = let m : n ≡ bytes = cc in m ∙ e
-
-pub cut-short : (text : List ℕ) → Whole Cut text
-cut-short text n q = absurd (let v : _≡_ {A = ℕ} 0 1 = cc in omega arith)
+use Rattle.printing.specs.Output.{linesFor, outputFor}
 
 pub parts-for : (judged : Bool) (text : List ℕ) → Parts (linesFor judged text) (outputFor judged text)
 parts-for true text = all-parts text .1

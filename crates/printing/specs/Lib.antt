@@ -1,2 +1,2 @@
--- What printing a text answers. Definitions only; assumes nothing.
+-- What the private functions of `src/` print. Definitions only; assumes nothing.
 pub mod Output

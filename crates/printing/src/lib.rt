@@ -1,24 +1,24 @@
-// `sweep` and `judge` on standard output: one part of the text after the other, each from the line where the one before ended, as
-// far as standard output takes them. No contract can say what is written. Where all was taken, the parts' lengths add up to the
-// length of document 01's text, and each part is what `text_parts` promises.
+// `sweep` and `judge` on standard output: one part of the text after the other, each from the line where the one before ended. No
+// contract can say what is written. The parts' lengths add up to the length of document 01's text, and each part is what
+// `text_parts` promises.
 use libc::STDERR_FILENO;
 use libc::STDIN_FILENO;
 use libc::STDOUT_FILENO;
 use text_parts::Part;
 ghost use mathlib.Core.Path.{_≡_};
 ghost use mathlib.Core.Bool.{true};
-ghost use lib.ListN.{drop};
+ghost use lib.ListN.{length, drop};
 ghost use Rattle.sweeps.specs.Sweep.{sweepOutput, judgeOutput};
 ghost use Rattle.text_parts.specs.Parts.{partLeft, partOf};
-ghost use Rattle.printing.specs.Output.{linesFor, outputFor, Whole};
+ghost use Rattle.printing.specs.Output.{linesFor, outputFor};
 
 // One byte more than the longest script has: enough to know that a text is too long.
 pub const ENOUGH: usize = 65537;
 
-// Standard output took the whole text, of so many bytes; or it stopped taking, and the text is cut off.
-pub enum Printed {
-    All(u64),
-    Cut,
+// How many bytes the text has, and whether standard output took them all.
+pub struct Printed {
+    pub bytes: u64,
+    pub taken: bool,
 }
 
 // Whether standard input has ended behind the bytes taken, or enough were taken. A read that fails is no end: a script that was not
@@ -51,8 +51,11 @@ fn part_of(judged: bool, text: &[u8], from: u64, out: &mut [u8]) -> Part
     text_parts::sweep_part(text, from, out)
 }
 
-// Writes bytes to standard output: whether it took them all.
-fn hand_over(bytes: &[u8]) -> bool {
+// Writes bytes to standard output, if it took all before them: whether it took these too.
+fn hand_over(taking: bool, bytes: &[u8]) -> bool {
+    if !taking {
+        return false;
+    }
     let taken = io::write_all(STDOUT_FILENO, bytes);
     if !taken {
         io::write_all(
@@ -63,25 +66,30 @@ fn hand_over(bytes: &[u8]) -> bool {
     taken
 }
 
-// Prints a program's text.
+// Prints a program's text. Where standard output stops taking, the rest is counted and not written.
 fn print(judged: bool, text: &[u8]) -> Printed
-    ensures { λ r. ⌜ Whole r (outputFor judged (now (text .entry))) ⌝ }
+    ensures { λ r. ⌜ r .bytes ≡ length (outputFor judged (now (text .entry))) ⌝ }
 {
     let mut out = [0u8; 262144];
     let mut from: u64 = 0;
     let mut printed: u64 = 0;
+    let mut taken = true;
     loop {
         let part = part_of(judged, text, from, &mut out);
         let Part::Lines(lines, bytes, left) = part else {
             // Never taken: there is room for every line.
-            return Printed::All(printed);
+            return Printed {
+                bytes: printed,
+                taken,
+            };
         };
-        if !hand_over(&out[..bytes]) {
-            return Printed::Cut;
-        }
+        taken = hand_over(taken, &out[..bytes]);
         printed += bytes as u64;
         if left == 0 {
-            return Printed::All(printed);
+            return Printed {
+                bytes: printed,
+                taken,
+            };
         }
         from += lines;
     }
@@ -89,14 +97,14 @@ fn print(judged: bool, text: &[u8]) -> Printed
 
 // Prints every run of a script with its ledger, or what refuses it.
 pub fn print_sweep(text: &[u8]) -> Printed
-    ensures { λ r. ⌜ Whole r (sweepOutput (now (text .entry))) ⌝ }
+    ensures { λ r. ⌜ r .bytes ≡ length (sweepOutput (now (text .entry))) ⌝ }
 {
     print(false, text)
 }
 
 // Prints every run of a script with the verdict on its suggested history, or what refuses it.
 pub fn print_judge(text: &[u8]) -> Printed
-    ensures { λ r. ⌜ Whole r (judgeOutput (now (text .entry))) ⌝ }
+    ensures { λ r. ⌜ r .bytes ≡ length (judgeOutput (now (text .entry))) ⌝ }
 {
     print(true, text)
 }

@@ -7,17 +7,17 @@ use lib.ListN.{length, drop}
 use lib.Seq.{length-take-le}
 use borrow.Author.Needs.{needs}
 use Rattle.printing.specs.Output.{linesFor, outputFor}
-use Rattle.printing.proofs.Counts.{cut-short, all-taken, parts-for, never-short, bytes-fit, goes-on, not-too-long, is-all, fewer, few-lines, starts}
+use Rattle.printing.proofs.Counts.{parts-for, never-short, bytes-fit, goes-on, not-too-long, is-all, fewer, few-lines, starts}
 use Rattle.printing.proofs.print.Statement.{statement}
 use Rattle.printing.proofs.print.Tie as tie
 
 -- the bytes printed, and those of the lines from this one on, are all of the text's
 abbrev Inv-loop : tie.InvT-loop
-Inv-loop judged text out₀ from₀ printed₀ out from printed =
+Inv-loop judged text out₀ from₀ printed₀ taken₀ out from printed taken =
     (length out ≡ 262144) × (from ≤ length (linesFor judged text)) × (printed + length (flatten (drop from (linesFor judged text))) ≡ length (outputFor judged text))
 
 abbrev μ-loop : tie.MeasureT-loop
-μ-loop judged text out₀ from₀ printed₀ out from printed = length (linesFor judged text) - from
+μ-loop judged text out₀ from₀ printed₀ taken₀ out from printed taken = length (linesFor judged text) - from
 
 loop-holds : tie.Need-loop-holds Inv-loop μ-loop
 loop-holds c =
@@ -59,39 +59,34 @@ hand-over-requires c κs = search needs
 
 add-printed : tie.Need-add-printed Inv-loop μ-loop
 add-printed c =
-    let s = c .before .before .before .before .before .before .before .before .before .before .before in
-    let h = c .before .before .before .before .before .before .before .before .before .loop .inv in
-    omega (arith, not-too-long (linesFor (s .args .judged) (s .args .text .now)) (outputFor (s .args .judged) (s .args .text .now)) (parts-for (s .args .judged) (s .args .text .now)) (c .before .before .before .before .before .before .before .before .before .loop .out) (h .0) (c .before .before .before .before .before .before .before .before .before .loop .from) _ _ (c .before .before .before .before .before .before .before .part-of .ensures) _ _ _ (c .before .before .before .before .part .given .1) _ (h .2))
+    let s = c .before .before .before .before .before .before .before .before .before .before in
+    let h = c .before .before .before .before .before .before .before .before .loop .inv in
+    omega (arith, not-too-long (linesFor (s .args .judged) (s .args .text .now)) (outputFor (s .args .judged) (s .args .text .now)) (parts-for (s .args .judged) (s .args .text .now)) (c .before .before .before .before .before .before .before .before .loop .out) (h .0) (c .before .before .before .before .before .before .before .before .loop .from) _ _ (c .before .before .before .before .before .before .part-of .ensures) _ _ _ (c .before .before .before .part .given .1) _ (h .2))
 
 returns-2 : tie.Need-returns-2 Inv-loop μ-loop
 returns-2 c =
     let s = c .before .before .before .before .before .before .before .before .before .before .before in
-    cut-short (outputFor (s .args .judged) (s .args .text .now))
-
-returns-3 : tie.Need-returns-3 Inv-loop μ-loop
-returns-3 c =
-    let s = c .before .before .before .before .before .before .before .before .before .before .before .before in
-    let h = c .before .before .before .before .before .before .before .before .before .before .loop .inv in
-    all-taken _ (outputFor (s .args .judged) (s .args .text .now)) (is-all (linesFor (s .args .judged) (s .args .text .now)) (outputFor (s .args .judged) (s .args .text .now)) (parts-for (s .args .judged) (s .args .text .now)) (c .before .before .before .before .before .before .before .before .before .before .loop .out) (h .0) (c .before .before .before .before .before .before .before .before .before .before .loop .from) _ _ (c .before .before .before .before .before .before .before .before .part-of .ensures) _ _ _ (c .before .before .before .before .before .part .given .1) _ (h .2) (c .if2 .taken))
+    let h = c .before .before .before .before .before .before .before .before .before .loop .inv in
+    is-all (linesFor (s .args .judged) (s .args .text .now)) (outputFor (s .args .judged) (s .args .text .now)) (parts-for (s .args .judged) (s .args .text .now)) (c .before .before .before .before .before .before .before .before .before .loop .out) (h .0) (c .before .before .before .before .before .before .before .before .before .loop .from) _ _ (c .before .before .before .before .before .before .before .part-of .ensures) _ _ _ (c .before .before .before .before .part .given .1) _ (h .2) (c .if1 .taken)
 
 add-from : tie.Need-add-from Inv-loop μ-loop
 add-from c =
-    let s = c .before .before .before .before .before .before .before .before .before .before .before .before in
-    let h = c .before .before .before .before .before .before .before .before .before .before .loop .inv in
-    omega (arith, fewer (linesFor (s .args .judged) (s .args .text .now)) (outputFor (s .args .judged) (s .args .text .now)) (parts-for (s .args .judged) (s .args .text .now)) (c .before .before .before .before .before .before .before .before .before .before .loop .out) (h .0) (c .before .before .before .before .before .before .before .before .before .before .loop .from) _ _ (c .before .before .before .before .before .before .before .before .part-of .ensures) _ _ _ (c .before .before .before .before .before .part .given .1) _ (h .2) (c .if2 .left) .2, few-lines (s .args .judged) (s .args .text .now))
+    let s = c .before .before .before .before .before .before .before .before .before .before .before in
+    let h = c .before .before .before .before .before .before .before .before .before .loop .inv in
+    omega (arith, fewer (linesFor (s .args .judged) (s .args .text .now)) (outputFor (s .args .judged) (s .args .text .now)) (parts-for (s .args .judged) (s .args .text .now)) (c .before .before .before .before .before .before .before .before .before .loop .out) (h .0) (c .before .before .before .before .before .before .before .before .before .loop .from) _ _ (c .before .before .before .before .before .before .before .part-of .ensures) _ _ _ (c .before .before .before .before .part .given .1) _ (h .2) (c .if1 .left) .2, few-lines (s .args .judged) (s .args .text .now))
 
 loop-less : tie.Need-loop-less Inv-loop μ-loop
 loop-less c =
-    let s = c .before .before .before .before .before .before .before .before .before .before .before .before in
-    let h = c .before .before .before .before .before .before .before .before .before .before .loop .inv in
-    let f = fewer (linesFor (s .args .judged) (s .args .text .now)) (outputFor (s .args .judged) (s .args .text .now)) (parts-for (s .args .judged) (s .args .text .now)) (c .before .before .before .before .before .before .before .before .before .before .loop .out) (h .0) (c .before .before .before .before .before .before .before .before .before .before .loop .from) _ _ (c .before .before .before .before .before .before .before .before .part-of .ensures) _ _ _ (c .before .before .before .before .before .part .given .1) _ (h .2) (c .if2 .left) in
+    let s = c .before .before .before .before .before .before .before .before .before .before .before in
+    let h = c .before .before .before .before .before .before .before .before .before .loop .inv in
+    let f = fewer (linesFor (s .args .judged) (s .args .text .now)) (outputFor (s .args .judged) (s .args .text .now)) (parts-for (s .args .judged) (s .args .text .now)) (c .before .before .before .before .before .before .before .before .before .loop .out) (h .0) (c .before .before .before .before .before .before .before .before .before .loop .from) _ _ (c .before .before .before .before .before .before .before .part-of .ensures) _ _ _ (c .before .before .before .before .part .given .1) _ (h .2) (c .if1 .left) in
     omega (arith, f .0, f .1)
 
 loop-again : tie.Need-loop-again Inv-loop μ-loop
 loop-again c =
-    let s = c .before .before .before .before .before .before .before .before .before .before .before .before in
-    let h = c .before .before .before .before .before .before .before .before .before .before .loop .inv in
-    (c .before .before .before .before .before .before .before .out2 .given, fewer (linesFor (s .args .judged) (s .args .text .now)) (outputFor (s .args .judged) (s .args .text .now)) (parts-for (s .args .judged) (s .args .text .now)) (c .before .before .before .before .before .before .before .before .before .before .loop .out) (h .0) (c .before .before .before .before .before .before .before .before .before .before .loop .from) _ _ (c .before .before .before .before .before .before .before .before .part-of .ensures) _ _ _ (c .before .before .before .before .before .part .given .1) _ (h .2) (c .if2 .left) .2, goes-on (linesFor (s .args .judged) (s .args .text .now)) (outputFor (s .args .judged) (s .args .text .now)) (parts-for (s .args .judged) (s .args .text .now)) (c .before .before .before .before .before .before .before .before .before .before .loop .out) (h .0) (c .before .before .before .before .before .before .before .before .before .before .loop .from) _ _ (c .before .before .before .before .before .before .before .before .part-of .ensures) _ _ _ (c .before .before .before .before .before .part .given .1) _ (h .2))
+    let s = c .before .before .before .before .before .before .before .before .before .before .before in
+    let h = c .before .before .before .before .before .before .before .before .before .loop .inv in
+    (c .before .before .before .before .before .before .out2 .given, fewer (linesFor (s .args .judged) (s .args .text .now)) (outputFor (s .args .judged) (s .args .text .now)) (parts-for (s .args .judged) (s .args .text .now)) (c .before .before .before .before .before .before .before .before .before .loop .out) (h .0) (c .before .before .before .before .before .before .before .before .before .loop .from) _ _ (c .before .before .before .before .before .before .before .part-of .ensures) _ _ _ (c .before .before .before .before .part .given .1) _ (h .2) (c .if1 .left) .2, goes-on (linesFor (s .args .judged) (s .args .text .now)) (outputFor (s .args .judged) (s .args .text .now)) (parts-for (s .args .judged) (s .args .text .now)) (c .before .before .before .before .before .before .before .before .before .loop .out) (h .0) (c .before .before .before .before .before .before .before .before .before .loop .from) _ _ (c .before .before .before .before .before .before .before .part-of .ensures) _ _ _ (c .before .before .before .before .part .given .1) _ (h .2))
 
 pub print-spec : {M : Type 1} → statement M
 print-spec =
@@ -108,9 +103,8 @@ print-spec =
     array-share-prefix-out
     slice-aggregate-hand-over
     hand-over-requires
-    returns-2
     add-printed
-    returns-3
+    returns-2
     add-from
     loop-less
     loop-again)
