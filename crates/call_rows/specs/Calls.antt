@@ -5,7 +5,7 @@ use mathlib.Core.List.{List, [], _∷_}
 use Prim.Native.Nat.{ℕ}
 use lib.Dec.{eqb}
 use Rattle.basics.specs.Parts.{part}
-use Rattle.ledger.specs.Records.{begin, end}
+use Rattle.records.specs.Records.{begin, end}
 use Rattle.plain.specs.Plain.{program, erase, barrier, Call, act, mark}
 
 -- a kind's call: 0 a program of these bytes, 1 an erase, 2 a barrier, 3 begin, 4 end; a code above 4 has no meaning and is refused

@@ -11,7 +11,7 @@ use Rattle.inject.specs.Points.{injectionsOf, lone, under, progresses, inner, m
 use Rattle.landing.specs.Landed.{roundedUp, roundedDown}
 use Rattle.session.specs.Tests.{operationTest, markTest}
 use Rattle.session_program.specs.Program.{spanNumber, bitTest}
-use Rattle.ledger.specs.Records.{any, recordAt, recordsTo, behind, judged, entryBy, ledgerBy}
+use Rattle.records.specs.Records.{any, recordAt, recordsTo, behind, judged, entryBy, ledgerBy}
 use Rattle.plain.specs.Plain.{actTest, refusal, markRefusal, wholly, landedBy, completedBy, endingBy, asCut, after, takenBy, step, run, plain}
 use Rattle.plain.specs.Ledger.{orders, changed, withheld, ledger}
 use Rattle.examples.specs.Fixed.{FixedExamples}

@@ -21,7 +21,7 @@ use Rattle.model.specs.declared.Durability.the-variants.{PossiblyDurable}
 use Rattle.model.specs.Ledger.{Entry}
 use Rattle.session.specs.declared.Told.{Told}
 use Rattle.session.specs.declared.Armed.the-variants.{At}
-use Rattle.ledger.specs.Records.{begin}
+use Rattle.records.specs.Records.{begin}
 use Rattle.plain.specs.Plain.{Call, act, mark, program, plain}
 use Rattle.plain.specs.Ledger.{ledger}
 

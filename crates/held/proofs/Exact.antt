@@ -15,7 +15,7 @@ use Rattle.basics.proofs.Tests.{firstOf-pass, firstOf-stop, firstOf-one}
 use Rattle.inject.specs.declared.Op.{Op}
 use Rattle.inject.specs.declared.Op.the-variants.{Program, Erase, Barrier}
 use Rattle.inject.specs.declared.Injection.{Injection}
-use Rattle.ledger.specs.Records.{Label, begin, end, RecordMark}
+use Rattle.records.specs.Records.{Label, begin, end, RecordMark}
 use Rattle.held.specs.declared.Held.the-variants.{Relabelled, NotHeld}
 use Rattle.held.specs.Held.{Recorded, isRelabelled, same, sameOp, sameLabel, sameMark, opsThrough, digestsThrough, marksThrough, sameThrough, heldNumber, heldTest, numberOfHeld, keptUnless, heldBy, heldCall}
 use Rattle.held.proofs.Alike.{both}

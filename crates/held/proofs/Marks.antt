@@ -18,7 +18,7 @@ use lib.Dec.{eqb, leb, ltb}
 use borrow.Author.Tests.{ltb-true, lt-ltb, le-ltb, le-leb, lt-leb, not-true, not-false}
 use Rattle.basics.proofs.Tests.{le-or-gt}
 use Rattle.basics.proofs.Scans.{at-step, at-end}
-use Rattle.ledger.specs.Records.{begin, end, RecordMark}
+use Rattle.records.specs.Records.{begin, end, RecordMark}
 use Rattle.ledger.specs.Ledger.{marksFrom}
 use Rattle.held.specs.Held.{same, sameLabel, sameMark, below}
 use Rattle.held.specs.Scans.{skipped, markOf}

@@ -18,7 +18,7 @@ use Rattle.model.specs.Columns.{allUpTo}
 use Rattle.session.specs.declared.Counters.{Counters}
 use Rattle.session.specs.Log.{marksOf}
 use Rattle.session.specs.Tests.{marksUneven}
-use Rattle.ledger.specs.Records.{Label, begin, end, RecordMark}
+use Rattle.records.specs.Records.{Label, begin, end, RecordMark}
 use Rattle.ledger.specs.Ledger.{marksListed, countsShort}
 use Rattle.held.specs.declared.Held.{Held}
 use Rattle.held.specs.declared.Held.the-variants.{Relabelled, Kept, NotHeld}

@@ -5,7 +5,7 @@ use mathlib.Core.Path.{_≡_}
 use Prim.Native.Nat.{ℕ, suc, _≤_}
 use lib.ListN.{length}
 use lib.Dec.{ltb}
-use Rattle.ledger.specs.Records.{RecordMark}
+use Rattle.records.specs.Records.{RecordMark}
 use Rattle.ledger.specs.Ledger.{labelOf}
 use Rattle.held.specs.Held.{Recorded}
 

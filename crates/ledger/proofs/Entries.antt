@@ -18,13 +18,14 @@ use Rattle.basics.specs.Tests.{flag}
 use Rattle.model.specs.Ledger.{Entry, codeOf}
 use Rattle.session.specs.declared.Armed.{Armed}
 use Rattle.session.specs.Armed.{armedOn, isArmed}
-use Rattle.ledger.specs.declared.Facts.{Facts}
-use Rattle.ledger.specs.Records.{any, begin, end, RecordMark, Asked, nextPlace, recordAt, recordsTo, judged, entryBy, ledgerBy}
+use Rattle.records.specs.declared.Facts.{Facts}
+use Rattle.records.specs.Records.{any, begin, end, RecordMark, Asked, nextPlace, recordAt, recordsTo, judged, entryBy, ledgerBy}
 use Rattle.ledger.specs.Ledger.{Row, rowsFrom, marksFrom, Entered, enteredOf, entered}
-use Rattle.ledger.specs.Scans.{begins, lastPlace, lastBarrier, higher, armedIn, entryIn, entryAt, nextOf, Filled, filled, enter, fillFrom, entriesFrom}
-use Rattle.ledger.proofs.Places.{followed}
+use Rattle.records.specs.Columns.{lastPlace, lastBarrier, higher, armedIn, entryIn, entryAmong, entryAt}
+use Rattle.ledger.specs.Scans.{begins, nextOf, Filled, filled, enter, fillFrom, entriesFrom}
+use Rattle.records.proofs.Places.{followed}
 use Rattle.ledger.proofs.Rows.{rows-part, rows-length, rows-changed, rows-written, rows-ordered, rows-armed}
-use Rattle.ledger.proofs.Clips.{Clipped, clipped}
+use Rattle.records.proofs.Clips.{Clipped, clipped}
 
 -- what the rule asks, with what is found once
 abbrev pub asking : Armed → (outstanding : Bool) → Asked Row
@@ -77,10 +78,12 @@ module _ (a : Armed) (o : Bool) (ks cs xs : List ℕ) (e : length cs ≡ length 
       let below : start ≤ stop = w .order in
       let fits : stop ≤ n = omega (arith, w .fits, l) in
       let z : start + (stop - start) ≡ stop = omega arith in
+      let both : n ≡ min (length ks) (length cs) = omega (arith, e) in
       let room : start + (stop - start) ≤ n = rw z fits in
       ap₂ (λ (x y : List Row). entryBy (asking a o) (record { id = id; own = x; later = y })) (w .own) (w .later)
       ∙ entry-part id start (stop - start) room
       ∙ ap (entryIn (factsOf a o ks xs) ks cs id start) z
+      ∙ ap (λ (k : ℕ). entryAmong k (factsOf a o ks xs) ks cs id from to) both
 
   next-is : (last : ℕ) (ms is ps : List ℕ) → length is ≡ length ms → length ps ≡ length ms → nextPlace last (marksFrom ms is ps) ≡ nextOf last ps
   unfolding marksFrom

@@ -1,8 +1,6 @@
--- Laws of places, columns, rows and records.
-pub mod Places
+-- Laws of the log's rows, of the marks' entries and of the whole call.
 pub mod Scanning
 pub mod Rows
-pub mod Clips
 pub mod Entries
 pub mod Withheld
 pub mod Numbers

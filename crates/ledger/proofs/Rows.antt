@@ -17,10 +17,10 @@ use Rattle.inject.specs.declared.Injection.{Injection}
 use Rattle.session.specs.declared.Armed.{Armed}
 use Rattle.session.specs.declared.Armed.the-variants.{Nothing, At}
 use Rattle.session.specs.Armed.{armedOn, isArmed}
-use Rattle.ledger.specs.Records.{any}
+use Rattle.records.specs.Records.{any}
 use Rattle.ledger.specs.Ledger.{Row, rowsFrom}
-use Rattle.ledger.specs.Scans.{lastPlace, yes, isOne, isWrite, ordering, lastBarrier, armedIn}
-use Rattle.ledger.proofs.Places.{any-map, last-map}
+use Rattle.records.specs.Columns.{lastPlace, yes, isOne, isWrite, ordering, lastBarrier, armedIn}
+use Rattle.records.proofs.Places.{any-map, last-map}
 
 -- ---- parts
 

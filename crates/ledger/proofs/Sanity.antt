@@ -18,7 +18,7 @@ use Rattle.session.specs.declared.Armed.the-variants.{Nothing}
 use Rattle.session.specs.declared.Counters.{Counters}
 use Rattle.session.specs.Log.{Log, Marks}
 use Rattle.session.specs.Armed.{armedOn, isArmed}
-use Rattle.ledger.specs.Records.{any, Label, begin, end, RecordMark, Kept, nextPlace, recordAt, recordsTo, judged, entryBy, ledgerBy}
+use Rattle.records.specs.Records.{any, Label, begin, end, RecordMark, Kept, nextPlace, recordAt, recordsTo, judged, entryBy, ledgerBy}
 use Rattle.ledger.specs.Ledger.{Row, rowsOf, marksFrom, marksListed, outstanding, asked, ledgerOfRun}
 
 -- ---- how many

@@ -1,94 +1,42 @@
--- One record judged, one mark entered, and the loop over the marks.
---     entry-codes               state and torn, from what the code has found
+-- One mark entered, and the loop over the marks.
 --     enter-none, enter-one     an end leaves the columns, a begin stores its entry
 --     fill-next, fill-end       the loop: what is left to be entered
 --     derive-short, derive-all  13, or the ledger in its columns
 -- Assumes nothing.
-use mathlib.Core.Path.{_≡_, refl, sym, ap, ap₂, _∙_}
-use mathlib.Core.Bool.{Bool, true, false, _&&_}
+use mathlib.Core.Path.{_≡_, sym, ap, _∙_}
 use mathlib.Core.List.{List, _∷_}
-use Prim.Native.Nat.{ℕ, _+_, _-_, _≤_, _<_}
+use Prim.Native.Nat.{ℕ, _+_, _≤_, _<_}
 use native.Mathlib.Omega.{arith}
-use lib.Dec.{ltb}
-use lib.ListN.{length, take, drop, getD, set}
+use lib.ListN.{length, drop, getD, set}
 use borrow.Author.Tests.{eq-eqb, ne-eqb, le-leb, lt-leb}
 use Rattle.basics.specs.Tests.{flag, unless}
 use Rattle.basics.proofs.Scans.{at-step, at-end}
 use Rattle.model.specs.Ledger.{codeOf}
-use Rattle.model.specs.declared.Durability.{Durability}
 use Rattle.ledger.specs.declared.Derived.the-variants.{Entries, NotDerived}
-use Rattle.ledger.specs.declared.Facts.{Facts}
-use Rattle.ledger.specs.declared.Scanned.{Scanned}
-use Rattle.ledger.specs.declared.Span.{Span}
-use Rattle.ledger.specs.declared.Codes.{Codes}
-use Rattle.ledger.specs.Records.{judged}
+use Rattle.records.specs.declared.Facts.{Facts}
+use Rattle.records.specs.declared.Codes.{Codes}
 use Rattle.ledger.specs.Ledger.{Entered, enteredOf, entered, ledgered}
-use Rattle.ledger.specs.Scans.{begins, spanOf, armedIn, scannedOf, entryIn, entryAt, codesOf, nextOf, Filled, filled, entering, fillFrom, entriesFrom, derivedBy}
+use Rattle.records.specs.Columns.{entryAt, codesOf}
+use Rattle.ledger.specs.Scans.{begins, nextOf, Filled, filled, entering, fillFrom, entriesFrom, derivedBy}
+use Rattle.records.proofs.Judged.{entry-id, entry-same}
 use Rattle.ledger.proofs.Entries.{entries-length, filled-all}
 
--- ---- one record
+-- ---- one mark
 
-judged-id : (id : ℕ) (a b c : Bool) → judged id a b c .id ≡ id
-unfolding judged
-judged-id id false b c = refl
-judged-id id true true c = refl
-judged-id id true false true = refl
-judged-id id true false false = refl
+module _ (f : Facts) (ks cs : List ℕ) (from to code id n : ℕ) (is ss ts : List ℕ) where
+  pub enter-none : (code ≡ 1 → ⊥) → filled n (enteredOf is ss ts) ≡ entering f ks cs code id from to (filled n (enteredOf is ss ts))
+  enter-none h = rw (ne-eqb code 1 h)
 
--- state and torn do not depend on the id
-judged-codes : (id : ℕ) (a b c : Bool) → codesOf (judged id a b c) ≡ codesOf (judged 0 a b c)
-unfolding judged
-judged-codes id false b c = refl
-judged-codes id true true c = refl
-judged-codes id true false true = refl
-judged-codes id true false false = refl
-
-judged-torn : (a b c : Bool) → judged 0 a b c .mark ≡ (a && b)
-unfolding judged
-judged-torn false b c = refl
-judged-torn true true c = refl
-judged-torn true false true = refl
-judged-torn true false false = refl
-
-module _ (f : Facts) (ks cs : List ℕ) (from to : ℕ) where
-  pub entry-codes : (s : Span) → s ≡ spanOf (length ks) from to → (within : Bool) → within ≡ armedIn (f .armed) (s .start) (s .stop)
-      → (own : Scanned) → own ≡ scannedOf (take (s .stop - s .start) (drop (s .start) ks)) (take (s .stop - s .start) (drop (s .start) cs))
-      → (state : Durability) → state ≡ judged 0 (own .changed) (f .outstanding && within) (ltb (s .start + own .written) (f .barrier)) .state
-      → (code torn : ℕ) → code ≡ codeOf state → torn ≡ flag (own .changed && (f .outstanding && within))
-      → _≡_ {A = Codes} (record { state = code; torn = torn }) (codesOf (entryAt f ks cs 0 from to))
-  unfolding entryIn
-  entry-codes s e within w own o state q code torn x y =
-      let j = judged 0 (own .changed) (f .outstanding && within) (ltb (s .start + own .written) (f .barrier)) in
-      let one : code ≡ codeOf (j .state) = x ∙ ap codeOf q in
-      let two : torn ≡ flag (j .mark) = y ∙ ap flag (sym (judged-torn (own .changed) (f .outstanding && within) (ltb (s .start + own .written) (f .barrier)))) in
-      (λ i. record { state = one i; torn = two i })
-      ∙ ap₂ (λ (n : Bool) (z : Scanned). codesOf (judged 0 (z .changed) (f .outstanding && n) (ltb (s .start + z .written) (f .barrier)))) w o
-      ∙ ap (λ (z : Span). codesOf (entryIn f ks cs 0 (z .start) (z .stop))) e
-
-  entry-id : (id : ℕ) → entryAt f ks cs id from to .id ≡ id
-  unfolding entryIn
-  entry-id id = judged-id id _ _ _
-
-  entry-same : (id : ℕ) → codesOf (entryAt f ks cs id from to) ≡ codesOf (entryAt f ks cs 0 from to)
-  unfolding entryIn
-  entry-same id = judged-codes id _ _ _
-
-  -- ---- one mark
-
-  module _ (code id n : ℕ) (is ss ts : List ℕ) where
-    pub enter-none : (code ≡ 1 → ⊥) → filled n (enteredOf is ss ts) ≡ entering f ks cs code id from to (filled n (enteredOf is ss ts))
-    enter-none h = rw (ne-eqb code 1 h)
-
-    pub enter-one : code ≡ 1 → (next : ℕ) → next ≡ to → (x : Codes) → x ≡ codesOf (entryAt f ks cs 0 from next)
-        → (is′ ss′ ts′ : List ℕ) → is′ ≡ set is n id → ss′ ≡ set ss n (x .state) → ts′ ≡ set ts n (x .torn)
-        → filled (n + 1) (enteredOf is′ ss′ ts′) ≡ entering f ks cs code id from to (filled n (enteredOf is ss ts))
-    enter-one h next t x e is′ ss′ ts′ p q r =
-        let y = entryAt f ks cs id from to in
-        let same : x ≡ codesOf y = e ∙ ap (λ (z : ℕ). codesOf (entryAt f ks cs 0 from z)) t ∙ sym (entry-same id) in
-        let a : is′ ≡ set is n (y .id) = p ∙ ap (set is n) (sym (entry-id id)) in
-        let b : ss′ ≡ set ss n (codeOf (y .state)) = q ∙ ap (λ (z : Codes). set ss n (z .state)) same in
-        let d : ts′ ≡ set ts n (flag (y .mark)) = r ∙ ap (λ (z : Codes). set ts n (z .torn)) same in
-        rw (eq-eqb code 1 h) (λ i. filled (n + 1) (enteredOf (a i) (b i) (d i)))
+  pub enter-one : code ≡ 1 → (next : ℕ) → next ≡ to → (x : Codes) → x ≡ codesOf (entryAt f ks cs 0 from next)
+      → (is′ ss′ ts′ : List ℕ) → is′ ≡ set is n id → ss′ ≡ set ss n (x .state) → ts′ ≡ set ts n (x .torn)
+      → filled (n + 1) (enteredOf is′ ss′ ts′) ≡ entering f ks cs code id from to (filled n (enteredOf is ss ts))
+  enter-one h next t x e is′ ss′ ts′ p q r =
+      let y = entryAt f ks cs id from to in
+      let same : x ≡ codesOf y = e ∙ ap (λ (z : ℕ). codesOf (entryAt f ks cs 0 from z)) t ∙ sym (entry-same f ks cs from to id) in
+      let a : is′ ≡ set is n (y .id) = p ∙ ap (set is n) (sym (entry-id f ks cs from to id)) in
+      let b : ss′ ≡ set ss n (codeOf (y .state)) = q ∙ ap (λ (z : Codes). set ss n (z .state)) same in
+      let d : ts′ ≡ set ts n (flag (y .mark)) = r ∙ ap (λ (z : Codes). set ts n (z .torn)) same in
+      rw (eq-eqb code 1 h) (λ i. filled (n + 1) (enteredOf (a i) (b i) (d i)))
 
 -- ---- all marks
 

@@ -20,9 +20,10 @@ use Rattle.session.specs.declared.Counters.{Counters}
 use Rattle.session.specs.Log.{Log, Marks}
 use Rattle.session.specs.Tests.{sizeTest, logUnevenOf, marksUnevenOf, logShort, marksShort}
 use Rattle.ledger.specs.declared.Derived.the-variants.{NotDerived}
-use Rattle.ledger.specs.declared.Facts.{Facts}
+use Rattle.records.specs.declared.Facts.{Facts}
 use Rattle.ledger.specs.Ledger.{rowsOf, marksListed, outstanding, ledgerOfRun, entriesUneven, codesKnown, countsShort, ledgerNumber, Entered, Ledgered, ledgered, ledgeredBy, ledgerCall}
-use Rattle.ledger.specs.Scans.{lengthNumber, codeNumber, lastBarrier, entriesFrom, derivedBy}
+use Rattle.records.specs.Columns.{lastBarrier}
+use Rattle.ledger.specs.Scans.{lengthNumber, codeNumber, entriesFrom, derivedBy}
 use Rattle.ledger.proofs.Entries.{factsOf, entries-are}
 
 -- ---- tests in two parts

@@ -16,7 +16,7 @@ use Rattle.basics.proofs.Tests.{le-or-gt}
 use Rattle.device.specs.Media.{anyPair, unequal, differsFrom}
 use Rattle.session.specs.declared.Counters.{Counters}
 use Rattle.ledger.specs.Ledger.{outstanding}
-use Rattle.ledger.proofs.Clips.{min-lt, min-le}
+use Rattle.records.proofs.Clips.{min-lt, min-le}
 
 none : (l : List ℕ) → anyPair unequal [] l ≡ false
 unfolding anyPair

@@ -17,7 +17,7 @@ use Rattle.session.specs.Tests.{sizeTest, logUnevenOf, logShort, marksUnevenOf,
 use Rattle.session.specs.Armed.{armedOn, isArmed}
 use Rattle.ledger.specs.declared.Derived.{Derived}
 use Rattle.ledger.specs.declared.Derived.the-variants.{Entries, NotDerived}
-use Rattle.ledger.specs.Records.{Label, begin, end, RecordMark, Asked, ledgerBy}
+use Rattle.records.specs.Records.{Label, begin, end, RecordMark, Asked, ledgerBy}
 
 -- ---- what the columns hold
 

@@ -1,5 +1,4 @@
--- Document 01, "session.rs (974)": records and the ledger of a run. A reader reads `Records` and `Ledger`; `Scans` has what only
--- private contracts cite. Definitions only; assumes nothing.
-pub mod Records
+-- Document 01, "session.rs (974)": the ledger of a run, by the rule for records (`records` Records). A reader reads `Ledger`; `Scans` has
+-- what only private contracts cite. Definitions only; assumes nothing.
 pub mod Ledger
 pub mod Scans

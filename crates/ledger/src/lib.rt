@@ -1,17 +1,16 @@
-// The ledger of a run: every record that was declared, with the state it ended in and whether it is torn. Follows `ledger` and
-// `durability_of` of waymaker-fault's session.rs. The caller lends what the session kept (media, withheld copy, log, marks) and
-// three columns for the ledger; lengths and codes are tested first (7, 12, 13), and a refusal changes nothing. The contract of
-// `ledger` is an equation for every input.
+// The ledger of a run: every record that was declared, with the state it ended in and whether it is torn. Follows `ledger` of
+// waymaker-fault's session.rs; what one record's operations say is in `records`. The caller lends what the session kept (media,
+// withheld copy, log, marks) and three columns for the ledger; lengths and codes are tested first (7, 12, 13), and a refusal
+// changes nothing. The contract of `ledger` is an equation for every input.
 //
-// What does not depend on the record is found once (`Facts`); then each record's own operations are looked at once. So the cost
-// grows with the operations, the marks and the records' own lengths.
+// What does not depend on the record is found once (`records::Facts`); then each record's own operations are looked at once. So
+// the cost grows with the operations, the marks and the records' own lengths.
 use basics::first_of;
 use basics::lower;
 use basics::store_u8;
 use basics::store_u32;
-use model::Durability;
 use model::all_up_to;
-use session::Armed;
+use records::Facts;
 use session::Counters;
 use session::MARKS;
 use session::OPERATIONS;
@@ -20,43 +19,15 @@ use storage::Geometry;
 ghost use mathlib.Core.Path.{_≡_};
 ghost use Prim.Native.Nat.{_+_, _≤_, _<_};
 ghost use lib.ListN.{length, take, drop, getD};
-ghost use Rattle.model.specs.Ledger.{codeOf};
 ghost use Rattle.model.specs.Columns.{allUpTo};
 ghost use Rattle.session.specs.Log.{logOf, marksOf};
-ghost use Rattle.ledger.specs.Records.{judged};
 ghost use Rattle.ledger.specs.Ledger.{outstanding, entriesUneven, enteredOf, ledgered, ledgerCall};
-ghost use Rattle.ledger.specs.Scans.{lengthNumber, codeNumber, begins, lastBarrier, spanOf, armedIn, scannedOf, entryAt, codesOf, nextOf, filled, entering, fillFrom, derivedBy};
+ghost use Rattle.ledger.specs.Scans.{lengthNumber, codeNumber, begins, nextOf, filled, entering, fillFrom, derivedBy};
 
 // How many entries the ledger has, or document 01's number that refuses.
 pub enum Derived {
     Entries(usize),
     NotDerived(u32),
-}
-
-// What every record's state is judged by: what is armed, whether the bytes that it withheld are still not on media, and one past
-// the last barrier that answered 0.
-struct Facts {
-    armed: Armed,
-    outstanding: bool,
-    barrier: usize,
-}
-
-// A record's operations: the first, and one past the last.
-struct Span {
-    start: usize,
-    stop: usize,
-}
-
-// What a record's own operations say: whether a cell changed, and one past the last program or erase.
-struct Scanned {
-    changed: bool,
-    written: usize,
-}
-
-// State and torn as the columns hold them.
-struct Codes {
-    state: u8,
-    torn: u8,
 }
 
 // ---- tests
@@ -147,123 +118,6 @@ fn outstanding(counters: Counters, media: &[u8], copy: &[u8]) -> bool
     device_questions::differs_from(media, counters.place, &copy[start..stop])
 }
 
-// One past the last barrier that answered 0.
-fn last_barrier(kinds: &[u8], answered: &[u8]) -> usize
-    requires { ⌜ length (now answered) ≡ length (now kinds) ⌝ }
-    ensures { λ r. ⌜ r ≡ lastBarrier (now (kinds .entry)) (now (answered .entry)) ⌝ }
-{
-    let mut last: usize = 0;
-    let mut i = 0;
-    while i < kinds.len() {
-        if (kinds[i] == 2) & (answered[i] == 1) {
-            last = i + 1;
-        }
-        i += 1;
-    }
-    last
-}
-
-// ---- one record
-
-// The operations from a mark to the next, of n in all. A next mark that stands earlier leaves none, and so does a mark that
-// stands past the operations.
-fn span_of(n: usize, from: usize, to: usize) -> Span
-    ensures { λ r. ⌜ (r ≡ spanOf n from to) × (r .start ≤ r .stop) × (r .stop ≤ n) ⌝ }
-{
-    let start = lower(from, n);
-    let stop = lower(to, n);
-    if start < stop {
-        Span { start, stop }
-    } else {
-        Span { start, stop: start }
-    }
-}
-
-// Whether the operation that the injection is armed on is among these.
-fn armed_in(armed: Armed, start: usize, stop: usize) -> bool
-    ensures { λ r. ⌜ r ≡ armedIn armed start stop ⌝ }
-{
-    match armed {
-        Armed::Nothing => false,
-        Armed::At(injection) => {
-            let op = injection.op;
-            (start <= op) & (op < stop)
-        }
-    }
-}
-
-// What a record's own operations say.
-fn scan(kinds: &[u8], changed: &[u8]) -> Scanned
-    requires { ⌜ length (now changed) ≡ length (now kinds) ⌝ }
-    ensures { λ r. ⌜ (r ≡ scannedOf (now (kinds .entry)) (now (changed .entry))) × (r .written ≤ length (now (kinds .entry))) ⌝ }
-{
-    let mut any_changed = false;
-    let mut written: usize = 0;
-    let mut i = 0;
-    while i < kinds.len() {
-        any_changed = any_changed | (changed[i] == 1);
-        if kinds[i] != 2 {
-            written = i + 1;
-        }
-        i += 1;
-    }
-    Scanned {
-        changed: any_changed,
-        written,
-    }
-}
-
-// The state of a record: whether it changed a cell, whether some of it is withheld, and whether a barrier that answered 0 follows
-// its last program or erase. A record that changed no cell is attempted, withheld or not: this test comes first.
-fn durability_of(changed: bool, withheld: bool, followed: bool) -> Durability
-    ensures { λ r. ⌜ r ≡ judged 0 changed withheld followed .state ⌝ }
-{
-    if !changed {
-        return Durability::Attempted;
-    }
-    // A barrier orders what is on media, and that is half a record.
-    if withheld {
-        return Durability::PossiblyDurable;
-    }
-    if followed {
-        Durability::Acknowledged
-    } else {
-        Durability::PossiblyDurable
-    }
-}
-
-// The code of a state.
-fn code_of(state: Durability) -> u8
-    ensures { λ r. ⌜ r ≡ codeOf state ⌝ }
-{
-    match state {
-        Durability::Attempted => 0,
-        Durability::PossiblyDurable => 1,
-        Durability::Acknowledged => 2,
-    }
-}
-
-// State and torn of the record whose mark stands at `from`, the next one at `to`. A record none of whose bytes reached media is
-// not a torn one.
-fn entry_at(facts: Facts, kinds: &[u8], changed: &[u8], from: usize, to: usize) -> Codes
-    requires { ⌜ length (now changed) ≡ length (now kinds) ⌝ }
-    ensures { λ r. ⌜ r ≡ codesOf (entryAt facts (now (kinds .entry)) (now (changed .entry)) 0 from to) ⌝ }
-{
-    let span = span_of(kinds.len(), from, to);
-    let start = span.start;
-    let stop = span.stop;
-    let armed = facts.armed;
-    let within = armed_in(armed, start, stop);
-    let withheld = facts.outstanding & within;
-    let own = scan(&kinds[start..stop], &changed[start..stop]);
-    let followed = start + own.written < facts.barrier;
-    let state = durability_of(own.changed, withheld, followed);
-    Codes {
-        state: code_of(state),
-        torn: session::flag_of(own.changed & withheld),
-    }
-}
-
 // ---- all of them
 
 // Where the mark after `i` stands, or the last operation.
@@ -293,7 +147,7 @@ fn enter(
     states: &mut [u8],
     torn: &mut [u8],
 ) -> usize
-    requires { ⌜ (n ≤ i) × (i < length (now codes)) × (length (now «mark_ids») ≡ length (now codes)) × (length (now places) ≡ length (now codes)) × (length (now changed) ≡ length (now kinds)) ⌝ }
+    requires { ⌜ (n ≤ i) × (i < length (now codes)) × (length (now «mark_ids») ≡ length (now codes)) × (length (now places) ≡ length (now codes)) ⌝ }
     ensures { λ r. ⌜ (filled r (enteredOf (now (ids .exit)) (now (states .exit)) (now (torn .exit))) ≡ entering facts (now (kinds .entry)) (now (changed .entry)) (getD (now (codes .entry)) i 0) (getD (now («mark_ids» .entry)) i 0) (getD (now (places .entry)) i 0) (nextOf (length (now (kinds .entry))) (drop (i + 1) (now (places .entry)))) (filled n (enteredOf (now (ids .entry)) (now (states .entry)) (now (torn .entry))))) × (r ≤ n + 1) ⌝ }
 {
     if codes[i] != 1 {
@@ -302,7 +156,7 @@ fn enter(
     let more = n + 1;
     let from = places[i] as usize;
     let to = next_place(places, i, kinds.len());
-    let entry = entry_at(facts, kinds, changed, from, to);
+    let entry = records::entry_at(facts, kinds, changed, from, to);
     let id = mark_ids[i];
     store_u32(ids, n, id);
     store_u8(states, n, entry.state);
@@ -322,7 +176,7 @@ fn fill(
     states: &mut [u8],
     torn: &mut [u8],
 ) -> usize
-    requires { ⌜ (length (now «mark_ids») ≡ length (now codes)) × (length (now places) ≡ length (now codes)) × (length (now changed) ≡ length (now kinds)) ⌝ }
+    requires { ⌜ (length (now «mark_ids») ≡ length (now codes)) × (length (now places) ≡ length (now codes)) ⌝ }
     ensures { λ r. ⌜ filled r (enteredOf (now (ids .exit)) (now (states .exit)) (now (torn .exit))) ≡ fillFrom facts (now (kinds .entry)) (now (changed .entry)) (now (codes .entry)) (now («mark_ids» .entry)) (now (places .entry)) (filled 0 (enteredOf (now (ids .entry)) (now (states .entry)) (now (torn .entry)))) ⌝ }
 {
     let mut n: usize = 0;
@@ -358,7 +212,7 @@ fn derive(
     states: &mut [u8],
     torn: &mut [u8],
 ) -> Derived
-    requires { ⌜ (length (now «mark_ids») ≡ length (now codes)) × (length (now places) ≡ length (now codes)) × (length (now changed) ≡ length (now kinds)) × (length (now states) ≡ length (now ids)) × (length (now torn) ≡ length (now ids)) ⌝ }
+    requires { ⌜ (length (now «mark_ids») ≡ length (now codes)) × (length (now places) ≡ length (now codes)) × (length (now states) ≡ length (now ids)) × (length (now torn) ≡ length (now ids)) ⌝ }
     ensures { λ r. ⌜ ledgered r (enteredOf (now (ids .exit)) (now (states .exit)) (now (torn .exit))) ≡ derivedBy facts (now (kinds .entry)) (now (changed .entry)) (now (codes .entry)) (now («mark_ids» .entry)) (now (places .entry)) (enteredOf (now (ids .entry)) (now (states .entry)) (now (torn .entry))) ⌝ }
 {
     if ids.len() < begins(codes) {
@@ -422,7 +276,7 @@ pub fn ledger(
     let facts = Facts {
         armed,
         outstanding: outstanding(counters, media, copy),
-        barrier: last_barrier(&kinds[..operations], &answered[..operations]),
+        barrier: records::last_barrier(&kinds[..operations], &answered[..operations]),
     };
     derive(
         facts,

@@ -14,7 +14,7 @@ use Rattle.basics.proofs.Tests.{le-or-gt}
 use Rattle.inject.specs.declared.Injection.{Injection}
 use Rattle.session.specs.declared.Told.{Told}
 use Rattle.session.specs.declared.Armed.the-variants.{Nothing, At}
-use Rattle.ledger.specs.Records.{Label, begin, end, RecordMark, nextPlace, recordAt, recordsTo, entryBy, ledgerBy}
+use Rattle.records.specs.Records.{Label, begin, end, RecordMark, nextPlace, recordAt, recordsTo, entryBy, ledgerBy}
 use Rattle.plain.specs.Plain.{Call, Op, Run, asCut, plain}
 use Rattle.plain.specs.Ledger.{asked, ledger}
 use Rattle.plain.specs.Claims.{CutOnce, cutBy, cappedAt, Truncated}

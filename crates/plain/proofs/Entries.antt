@@ -8,7 +8,7 @@ use mathlib.Core.List.{List, [], _∷_, _++_, map}
 use Prim.Native.Nat.{ℕ}
 use lib.ListN.{length}
 use Rattle.model.specs.Ledger.{isAcknowledged, isTorn, ids}
-use Rattle.ledger.specs.Records.{Label, begin, end, RecordMark, Asked, Kept, any, nextPlace, recordAt, recordsTo, behind, judged, entryBy, ledgerBy}
+use Rattle.records.specs.Records.{Label, begin, end, RecordMark, Asked, Kept, any, nextPlace, recordAt, recordsTo, behind, judged, entryBy, ledgerBy}
 use Rattle.plain.specs.Plain.{Op, Run}
 use Rattle.plain.specs.Ledger.{asked, records, ledger, idOf, begun}
 use Rattle.plain.proofs.Histories.{TornOrAcknowledged}

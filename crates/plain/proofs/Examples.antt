@@ -26,7 +26,7 @@ use Rattle.session.specs.declared.Armed.{Armed}
 use Rattle.session.specs.declared.Armed.the-variants.{Nothing, At}
 use Rattle.session.specs.Tests.{operationTest, markTest}
 use Rattle.session_program.specs.Program.{spanNumber, bitTest}
-use Rattle.ledger.specs.Records.{begin, end, any, recordAt, recordsTo, behind, judged, entryBy, ledgerBy}
+use Rattle.records.specs.Records.{begin, end, any, recordAt, recordsTo, behind, judged, entryBy, ledgerBy}
 use Rattle.plain.specs.Plain.{program, erase, barrier, Call, act, mark, Run, actTest, refusal, markRefusal, wholly, landedBy, completedBy, endingBy, asCut, after, takenBy, step, run, plain}
 use Rattle.plain.specs.Ledger.{orders, changed, withheld, ledger, inOrder}
 use Rattle.plain.specs.Claims.{anyAcknowledged, lastAcknowledged, untorn}

@@ -3,7 +3,7 @@ use mathlib.Core.Path.{_≡_, refl, sym, _∙_}
 use mathlib.Core.Logic.{_⊎_, inl, inr}
 use mathlib.Core.Bool.{Bool, true, false, _&&_, _||_, false≢true, or-assoc}
 use mathlib.Core.List.{List, [], _∷_, _++_}
-use Rattle.ledger.specs.Records.{any}
+use Rattle.records.specs.Records.{any}
 
 pub first-true : (a b : Bool) → (a && b) ≡ true → a ≡ true
 first-true true b e = refl

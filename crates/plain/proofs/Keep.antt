@@ -13,7 +13,7 @@ use borrow.Author.Tests.{not-true}
 use Rattle.device.specs.Media.{anyPair}
 use Rattle.device.proofs.Pairs.{false-left, false-right}
 use Rattle.model.specs.Ledger.{isAcknowledged}
-use Rattle.ledger.specs.Records.{Kept, any, behind, judged, entryBy}
+use Rattle.records.specs.Records.{Kept, any, behind, judged, entryBy}
 use Rattle.plain.specs.Plain.{Op}
 use Rattle.plain.specs.Ledger.{isWrite, orders, changed, withheld, asked, inOrder}
 use Rattle.plain.proofs.Flags.{first-true, second-true, either-true, only-first, any-append}

@@ -15,7 +15,7 @@ use Rattle.inject.specs.declared.Injection.{Injection}
 use Rattle.session.specs.declared.Told.{Told}
 use Rattle.session.specs.declared.Armed.the-variants.{Nothing, At}
 use Rattle.model.specs.Ledger.{Entry, isAcknowledged}
-use Rattle.ledger.specs.Records.{Label, begin, end, RecordMark, any, nextPlace, recordAt, recordsTo, judged, entryBy, ledgerBy}
+use Rattle.records.specs.Records.{Label, begin, end, RecordMark, any, nextPlace, recordAt, recordsTo, judged, entryBy, ledgerBy}
 use Rattle.plain.specs.Plain.{barrier, Call, Op, Run, wholly, asCut, plain}
 use Rattle.plain.specs.Ledger.{isWrite, asked, records, ledger, inOrder}
 use Rattle.plain.specs.Claims.{CutOnce, cutBy, AllInOrder, Keeps}

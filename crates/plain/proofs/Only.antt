@@ -16,7 +16,7 @@ use Rattle.session.specs.declared.Told.{Told}
 use Rattle.session.specs.declared.Armed.{Armed}
 use Rattle.session.specs.declared.Armed.the-variants.{Nothing, At}
 use Rattle.model.specs.Ledger.{Entry, isCommitted, picked}
-use Rattle.ledger.specs.Records.{Label, begin, end, RecordMark, any, nextPlace, recordAt, recordsTo, behind, judged, entryBy, ledgerBy}
+use Rattle.records.specs.Records.{Label, begin, end, RecordMark, any, nextPlace, recordAt, recordsTo, behind, judged, entryBy, ledgerBy}
 use Rattle.plain.specs.Plain.{Call, barrier, Op, Run, wholly, plain}
 use Rattle.plain.specs.Ledger.{isWrite, orders, changed, withheld, asked, ledger}
 use Rattle.plain.specs.Claims.{CutOnce, cutBy, Truncated, OnlyTheLast}

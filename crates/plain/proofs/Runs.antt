@@ -13,7 +13,7 @@ use Rattle.landing.specs.declared.Stop.the-variants.{Running}
 use Rattle.session.specs.declared.Told.{Told}
 use Rattle.session.specs.declared.Armed.{Armed}
 use Rattle.session.specs.declared.Armed.the-variants.{Nothing, At}
-use Rattle.ledger.specs.Records.{Label}
+use Rattle.records.specs.Records.{Label}
 use Rattle.plain.specs.Plain.{Act, Call, act, mark, Op, Run, refusal, markRefusal, wholly, endingBy, asCut, refused, taken, takenBy, marked, unlessRefused, step, run, unrun, plain}
 
 pub taken-either : (P : Run → Type 0) (g : Geometry) (a : Armed) (r : Run) (o : Op) → P (taken r o Running)

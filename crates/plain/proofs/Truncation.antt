@@ -23,7 +23,7 @@ use Rattle.session.specs.declared.Told.{Told}
 use Rattle.session.specs.declared.Armed.the-variants.{Nothing, At}
 use Rattle.session.specs.Tests.{markTest}
 use Rattle.session_program.specs.Program.{spanNumber}
-use Rattle.ledger.specs.Records.{Label, RecordMark}
+use Rattle.records.specs.Records.{Label, RecordMark}
 use Rattle.plain.specs.Plain.{Act, program, erase, barrier, Call, act, mark, Op, Run, actTest, refusal, markRefusal, wholly, endingBy, refused, taken, takenBy, marked, step, run, unrun, plain}
 use Rattle.plain.specs.Claims.{CutOnce, cutBy, cappedAt, Truncated}
 

@@ -18,7 +18,7 @@ use Rattle.oracle.specs.Legal.{AbsentOrOne}
 use Rattle.session.specs.declared.Told.{Told}
 use Rattle.session.specs.declared.Armed.{Armed}
 use Rattle.session.specs.declared.Armed.the-variants.{Nothing, At}
-use Rattle.ledger.specs.Records.{RecordMark, Kept}
+use Rattle.records.specs.Records.{RecordMark, Kept}
 use Rattle.plain.specs.Plain.{Call, Op, Run, asCut, plain}
 use Rattle.plain.specs.Ledger.{records, ledger, begun, inOrder}
 

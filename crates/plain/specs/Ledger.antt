@@ -7,7 +7,7 @@ use lib.Dec.{eqb}
 use Rattle.basics.specs.Parts.{part}
 use Rattle.device.specs.Media.{anyPair, unequal}
 use Rattle.model.specs.Ledger.{Entry}
-use Rattle.ledger.specs.Records.{Label, begin, end, RecordMark, Asked, Kept, any, recordsOf, ledgerBy}
+use Rattle.records.specs.Records.{Label, begin, end, RecordMark, Asked, Kept, any, recordsOf, ledgerBy}
 use Rattle.plain.specs.Plain.{Kind, isProgram, isErase, isBarrier, Op, Run}
 
 abbrev pub isWriteKind : Kind → Bool

@@ -22,7 +22,7 @@ use Rattle.session.specs.declared.Armed.{Armed}
 use Rattle.session.specs.declared.Armed.the-variants.{Nothing, At}
 use Rattle.session.specs.Tests.{operationTest, markTest}
 use Rattle.session_program.specs.Program.{spanNumber, bitTest}
-use Rattle.ledger.specs.Records.{Label, RecordMark}
+use Rattle.records.specs.Records.{Label, RecordMark}
 
 -- ---- calls
 

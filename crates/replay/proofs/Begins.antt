@@ -21,7 +21,7 @@ use Rattle.session.specs.declared.Told.{Told}
 use Rattle.session.specs.declared.Armed.{Armed}
 use Rattle.session.specs.declared.Armed.the-variants.{Nothing, At}
 use Rattle.session.specs.Tests.{markTest}
-use Rattle.ledger.specs.Records.{Label, begin, end, RecordMark}
+use Rattle.records.specs.Records.{Label, begin, end, RecordMark}
 use Rattle.plain.specs.Plain.{Act, Call, act, mark, Op, Run, refusal, markRefusal, wholly, takenBy, refused, step, run, unrun, plain}
 use Rattle.plain.specs.Ledger.{idOf, begun, ledger}
 use Rattle.plain.proofs.Entries.{ledger-ids}

@@ -15,7 +15,7 @@ use Rattle.session.specs.Barrier.{barrierTest}
 use Rattle.session_erase.specs.Erase.{eraseNumberOf}
 use Rattle.session_program.specs.Program.{programNumberOf}
 use Rattle.plain.specs.Plain.{program, erase, barrier, Call, act, mark}
-use Rattle.ledger.specs.Records.{begin, end}
+use Rattle.records.specs.Records.{begin, end}
 use Rattle.threaded.specs.Threaded.{Session, answered, threaded}
 use Rattle.session_entries.specs.Entries.{withRows, movedTest, entriesNumber, toEntries, columnsNumber, toColumns, OfLength, Same}
 use Rattle.session_entries.proofs.Refused.{moved-fits}

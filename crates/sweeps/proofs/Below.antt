@@ -19,7 +19,7 @@ use borrow.Author.Tests.{le-ltb}
 use Rattle.basics.proofs.Columns.{column-stored}
 use Rattle.session.specs.Log.{Marks, Mark, markOf, marked}
 use Rattle.session.specs.Marks.{markedFrom}
-use Rattle.ledger.specs.Records.{RecordMark}
+use Rattle.records.specs.Records.{RecordMark}
 use Rattle.ledger.specs.Ledger.{labelOf, marksFrom}
 use Rattle.held.specs.Held.{below}
 

@@ -14,7 +14,7 @@ use Rattle.inject.specs.Ops.{opsOf, known}
 use Rattle.inject.specs.Points.{multiples, inner, progresses, under, lone, injectionsOf}
 use Rattle.landing.specs.Landed.{roundedUp, roundedDown}
 use Rattle.ledger.specs.Ledger.{rowsFrom, rowsOf, marksFrom, marksListed, outstanding, ledgerOfRun, codesKnown, countsShort, ledgerNumber, ledgerCall}
-use Rattle.ledger.specs.Records.{any, recordAt, recordsTo, behind, judged, entryBy, ledgerBy}
+use Rattle.records.specs.Records.{any, recordAt, recordsTo, behind, judged, entryBy, ledgerBy}
 use Rattle.model.specs.Columns.{ledgerOf, allUpTo, refused}
 use Rattle.id_columns.specs.Ids.{has, placeOf}
 use Rattle.model.specs.Ledger.{ids, picked, committed, acknowledged, torn, lookup}

@@ -21,7 +21,7 @@ use Rattle.session.specs.Tests.{marksTest, markTest, marksNumber}
 use Rattle.session.specs.Armed.{armedOn, isArmed}
 use Rattle.session.specs.Marks.{notedTest, noting, markedFrom}
 use Rattle.session_marks.proofs.Rows.{marks-fit}
-use Rattle.ledger.specs.Records.{RecordMark}
+use Rattle.records.specs.Records.{RecordMark}
 use Rattle.held.specs.Held.{below}
 use Rattle.threaded.specs.Threaded.{Session, Answered}
 use Rattle.threaded.proofs.Alike.{MarksLong, marks-long}

@@ -27,7 +27,7 @@ use Rattle.session.specs.declared.Armed.{Armed}
 use Rattle.session.specs.declared.Armed.the-variants.{Nothing, At}
 use Rattle.session.specs.Armed.{armedOn}
 use Rattle.session.specs.Log.{markOf}
-use Rattle.ledger.specs.Records.{RecordMark}
+use Rattle.records.specs.Records.{RecordMark}
 use Rattle.held.specs.Held.{below}
 use Rattle.threaded.specs.Threaded.{Session}
 use Rattle.script.specs.declared.Head.{Head}

@@ -26,7 +26,7 @@ use Rattle.session.specs.Log.{Log, logged, Marks}
 use Rattle.session.specs.Tests.{logShort, logLengthTest, logTest, marksShort, marksLengthTest, marksTest}
 use Rattle.session.specs.Armed.{armedOn, isArmed}
 use Rattle.session.proofs.Laws.{next-count}
-use Rattle.ledger.specs.Records.{Label, begin, end, RecordMark}
+use Rattle.records.specs.Records.{Label, begin, end, RecordMark}
 use Rattle.plain.specs.Plain.{Op, Run, taken}
 use Rattle.plain.specs.Plain
 use Rattle.plain.specs.Ledger.{changed}

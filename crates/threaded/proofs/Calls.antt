@@ -33,7 +33,7 @@ use Rattle.session_erase.specs.Erase.{eraseNumber, eraseNumberOf}
 use Rattle.session_erase.proofs.Laws.{erase-refuses, erase-takes}
 use Rattle.session_program.specs.Program.{spanNumber, bitTest, programNumber, programNumberOf}
 use Rattle.session_program.proofs.Laws.{program-refuses, program-takes}
-use Rattle.ledger.specs.Records.{Label, begin, end, RecordMark}
+use Rattle.records.specs.Records.{Label, begin, end, RecordMark}
 use Rattle.plain.specs.Plain.{Act, program, erase, barrier, Call, act, mark, Op, Run, actTest, refusal, markRefusal, wholly, refused, taken, takenBy, step}
 use Rattle.plain.specs.Plain
 use Rattle.threaded.specs.Threaded.{Session, Answered, afterWrite, afterBarrier, afterMark, answered}

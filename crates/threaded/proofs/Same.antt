@@ -23,7 +23,7 @@ use Rattle.session.specs.Tests.{sizeTest, logUnevenOf, marksUnevenOf, logShort,
 use Rattle.session.specs.declared.Started.the-variants
 use Rattle.session.specs.Start.{fresh, opened, started}
 use Rattle.session.proofs.Refusals.{sizes-fit}
-use Rattle.ledger.specs.Records.{Label, begin, end, RecordMark, ledgerBy}
+use Rattle.records.specs.Records.{Label, begin, end, RecordMark, ledgerBy}
 use Rattle.ledger.specs.Ledger.{rowsFrom, rowsOf, labelOf, marksFrom, marksListed, outstanding, asked, ledgerOfRun, Entered, entriesUneven, codesKnown, countsShort, ledgerNumber, ledgeredBy, ledgerCall}
 use Rattle.plain.specs.Plain.{Kind, isProgram, isErase, isBarrier, Call, Op, Run, step, run, unrun, plain}
 use Rattle.plain.specs.Ledger.{isWriteKind, orders, changed, ledger}

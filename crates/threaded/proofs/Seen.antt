@@ -8,7 +8,7 @@ use mathlib.Core.List.{List, [], _∷_, _++_, map, map-append}
 use Prim.Native.Nat.{ℕ, zero, suc, _-_}
 use lib.ListN.{length, take, drop, length-map}
 use Rattle.model.specs.Ledger.{Entry}
-use Rattle.ledger.specs.Records.{any, Label, begin, end, RecordMark, Asked, recordAt, nextPlace, recordsTo, behind, judged, entryBy, ledgerBy}
+use Rattle.records.specs.Records.{any, Label, begin, end, RecordMark, Asked, recordAt, nextPlace, recordsTo, behind, judged, entryBy, ledgerBy}
 
 module _ {A B : Type 0} (f : A → B) where
   map-take : (n : ℕ) (xs : List A) → take n (map f xs) ≡ map f (take n xs)

@@ -15,7 +15,7 @@ use Rattle.session.specs.Marks.{Noted, begun, ended}
 use Rattle.session.specs.Written.{Written}
 use Rattle.session_erase.specs.Erase.{eraseCall}
 use Rattle.session_program.specs.Program.{programCall}
-use Rattle.ledger.specs.Records.{begin, end}
+use Rattle.records.specs.Records.{begin, end}
 use Rattle.ledger.specs.Ledger.{Entered, Ledgered, ledgerOfRun, ledgerCall}
 use Rattle.plain.specs.Plain.{program, erase, barrier, Call, act, mark}
 

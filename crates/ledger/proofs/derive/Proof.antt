@@ -30,7 +30,7 @@ returns-2 : tie.Need-returns-2
 returns-2 c =
     let s = c .before .before .before .before .before .before .before .before .before .before .before .before .before .before .before .before .before .before .before .before in
     derive-all (s .args .facts) (s .args .kinds .now) (s .args .changed .now) (s .args .codes .now) (s .args .mark-ids .now) (s .args .places .now) (s .pre .0) (s .pre .1)
-    (enteredOf (s .args .ids .now) (s .args .states .now) (s .args .torn .now)) _ (c .before .before .before .before .before .before .before .before .before .before .before .begins .ensures .0) (c .before .before .before .before .before .before .before .before .before .before .if1 .left) (s .pre .3) (s .pre .4) _ _ (c .before .before .before .before .before .before .fill .ensures)
+    (enteredOf (s .args .ids .now) (s .args .states .now) (s .args .torn .now)) _ (c .before .before .before .before .before .before .before .before .before .before .before .begins .ensures .0) (c .before .before .before .before .before .before .before .before .before .before .if1 .left) (s .pre .2) (s .pre .3) _ _ (c .before .before .before .before .before .before .fill .ensures)
 
 pub derive-spec : {M : Type 1} → statement M
 derive-spec =

@@ -65,7 +65,7 @@ slice-aggregate-last-barrier-2 : tie.Need-slice-aggregate-last-barrier-2
 slice-aggregate-last-barrier-2 c = sym (length-take-le _ _ (omega (arith, held (c .before .before .before) .operations, held (c .before .before .before) .answers)))
 
 last-barrier-requires : tie.Need-last-barrier-requires
-last-barrier-requires c κs = simp (length-take, held (c .before .before .before) .answers)
+last-barrier-requires c κs = search needs
 
 slice-aggregate-derive : tie.Need-slice-aggregate-derive
 slice-aggregate-derive c = sym (length-take-le _ _ (held (c .before .before .before .before .before) .operations))
@@ -85,7 +85,7 @@ slice-aggregate-derive-5 c = sym (length-take-le _ _ (omega (arith, held (c .bef
 derive-requires : tie.Need-derive-requires
 derive-requires c κs =
     let h = held (c .before .before .before .before .before .before .before .before .before .before .before .before) in
-    (simp (length-take, h .names), simp (length-take, h .stands), simp (length-take, h .changes), h .states, h .torn)
+    (simp (length-take, h .names), simp (length-take, h .stands), h .states, h .torn)
 
 same-length : tie.Need-same-length
 same-length c = search needs

@@ -1,20 +1,23 @@
--- `ledger::last_barrier` meets its contract: the last one among the operations passed. Assumes nothing.
+-- `records::last_barrier` meets its contract: the last one among the operations passed. Assumes nothing.
 use mathlib.Core.Path.{_≡_, sym, _∙_}
 use mathlib.Core.Logic.{⊎-elim}
 use Prim.Native.Nat.{_-_, _≤_, _<_}
 use native.Mathlib.Omega.{arith}
 use lib.ListN.{length}
-use Rattle.ledger.proofs.Scanning.{barrierBelow, barrier-yes, barrier-no, barrier-end}
-use Rattle.ledger.specs.Scans.{lastPlace}
+use Rattle.records.proofs.Scanning.{barrierBelow, barrier-yes, barrier-no, barrier-end}
+use Rattle.records.specs.Columns.{lastPlace}
 use borrow.Author.Needs.{needs}
-use Rattle.ledger.proofs.last_barrier.Statement.{statement}
-use Rattle.ledger.proofs.last_barrier.Tie as tie
+use Rattle.records.proofs.last_barrier.Statement.{statement}
+use Rattle.records.proofs.last_barrier.Tie as tie
 
 abbrev Inv-loop : tie.InvT-loop
-Inv-loop kinds answered last₀ i₀ last i = (i ≤ length kinds) × (last ≡ barrierBelow kinds answered i)
+Inv-loop kinds answered rows last₀ i₀ last i = last ≡ barrierBelow kinds answered i
 
 abbrev μ-loop : tie.MeasureT-loop
-μ-loop kinds answered last₀ i₀ last i = length kinds - i
+μ-loop kinds answered rows last₀ i₀ last i = rows - i
+
+lower-requires : tie.Need-lower-requires Inv-loop μ-loop
+lower-requires c κs = search needs
 
 loop-holds : tie.Need-loop-holds Inv-loop μ-loop
 unfolding lastPlace
@@ -38,20 +41,24 @@ loop-less c = search needs
 loop-again : tie.Need-loop-again Inv-loop μ-loop
 loop-again c =
     let l = c .before .before .before .before in
-    let kinds = l .before .args .kinds .now in
-    let answered = l .before .args .answered .now in
+    let rows = l .before .lower .ensures in
+    let s = l .before .before .before .before in
+    let kinds = s .args .kinds .now in
+    let answered = s .args .answered .now in
     let i = l .loop .i in
-    let h : i < length kinds = omega arith in
-    let e = l .before .pre in
+    let h : i < length kinds = omega (arith, rows .1) in
+    let g : i < length answered = omega (arith, rows .2) in
     ⊎-elim
-    (λ w. (omega arith, w .1 ∙ sym (barrier-yes kinds answered i e h (w .0 .taken))))
-    (λ w. (omega arith, w .1 ∙ l .loop .inv .1 ∙ sym (barrier-no kinds answered i e h (w .0 .left))))
+    (λ w. w .1 ∙ sym (barrier-yes kinds answered i h g (w .0 .taken)))
+    (λ w. w .1 ∙ l .loop .inv ∙ sym (barrier-no kinds answered i h g (w .0 .left)))
     (c .if1 .came)
 
 returns : tie.Need-returns Inv-loop μ-loop
 returns c =
     let l = c .before in
-    l .loop .inv .1 ∙ barrier-end (l .before .args .kinds .now) (l .before .args .answered .now) (l .loop .i) (l .before .pre) (omega arith)
+    let rows = l .before .lower .ensures in
+    let s = l .before .before .before .before in
+    l .loop .inv ∙ barrier-end (s .args .kinds .now) (s .args .answered .now) (l .loop .i) (omega (arith, rows .0))
 
 pub last-barrier-spec : {M : Type 1} → statement M
 last-barrier-spec =
@@ -59,6 +66,7 @@ last-barrier-spec =
     (tie.spec
     Inv-loop
     μ-loop
+    lower-requires
     loop-holds
     shared-slice-read-if1
     shared-slice-read-if1-2

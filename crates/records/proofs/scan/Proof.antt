@@ -1,4 +1,4 @@
--- `ledger::scan` meets its contract: the flag and the place speak of the operations passed. Assumes nothing.
+-- `records::scan` meets its contract: the flag and the place speak of the operations passed. Assumes nothing.
 use mathlib.Core.Path.{_≡_, sym, ap, _∙_}
 use mathlib.Core.Logic.{⊎-elim}
 use mathlib.Core.Bool.{Bool, _||_}
@@ -7,12 +7,12 @@ use native.Mathlib.Omega.{arith}
 use lib.Dec.{eqb}
 use lib.ListN.{length, take, getD}
 use lib.Seq.{take-all}
-use Rattle.ledger.specs.Records.{any}
-use Rattle.ledger.specs.Scans.{lastPlace, isOne, isWrite}
-use Rattle.ledger.proofs.Scanning.{any-next, written-yes, written-no}
+use Rattle.records.specs.Records.{any}
+use Rattle.records.specs.Columns.{lastPlace, isOne, isWrite}
+use Rattle.records.proofs.Scanning.{any-next, written-yes, written-no}
 use borrow.Author.Needs.{needs}
-use Rattle.ledger.proofs.scan.Statement.{statement}
-use Rattle.ledger.proofs.scan.Tie as tie
+use Rattle.records.proofs.scan.Statement.{statement}
+use Rattle.records.proofs.scan.Tie as tie
 
 abbrev Inv-loop : tie.InvT-loop
 Inv-loop kinds changed any-changed₀ written₀ i₀ any-changed written i = (i ≤ length kinds) × (written ≤ i) × (any-changed ≡ any isOne (take i changed)) × (written ≡ lastPlace isWrite (take i kinds))

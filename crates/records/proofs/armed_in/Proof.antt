@@ -1,7 +1,7 @@
--- `ledger::armed_in` meets its contract, case by case. Assumes nothing.
+-- `records::armed_in` meets its contract, case by case. Assumes nothing.
 use borrow.Author.Needs.{needs}
-use Rattle.ledger.proofs.armed_in.Statement.{statement}
-use Rattle.ledger.proofs.armed_in.Tie as tie
+use Rattle.records.proofs.armed_in.Statement.{statement}
+use Rattle.records.proofs.armed_in.Tie as tie
 
 enum-told : tie.Need-enum-told
 enum-told c = search needs

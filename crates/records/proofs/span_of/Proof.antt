@@ -1,9 +1,9 @@
--- `ledger::span_of` meets its contract: what there is of the operations from a mark to the next. Assumes nothing.
+-- `records::span_of` meets its contract: what there is of the operations from a mark to the next. Assumes nothing.
 use native.Mathlib.Omega.{arith}
-use Rattle.ledger.proofs.Clips.{span-some, span-none}
+use Rattle.records.proofs.Clips.{span-some, span-none}
 use borrow.Author.Needs.{needs}
-use Rattle.ledger.proofs.span_of.Statement.{statement}
-use Rattle.ledger.proofs.span_of.Tie as tie
+use Rattle.records.proofs.span_of.Statement.{statement}
+use Rattle.records.proofs.span_of.Tie as tie
 
 lower-requires : tie.Need-lower-requires
 lower-requires c κs = search needs

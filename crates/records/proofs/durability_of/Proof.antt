@@ -1,8 +1,8 @@
--- `ledger::durability_of` meets its contract, test by test. Assumes nothing.
+-- `records::durability_of` meets its contract, test by test. Assumes nothing.
 use borrow.Author.Tests.{not-true, not-false}
-use Rattle.ledger.specs.Records.{judged}
-use Rattle.ledger.proofs.durability_of.Statement.{statement}
-use Rattle.ledger.proofs.durability_of.Tie as tie
+use Rattle.records.specs.Records.{judged}
+use Rattle.records.proofs.durability_of.Statement.{statement}
+use Rattle.records.proofs.durability_of.Tie as tie
 
 returns : tie.Need-returns
 unfolding judged

@@ -5,7 +5,7 @@
 use mathlib.Core.Path.{_≡_, refl, sym, ap, _∙_}
 use mathlib.Core.Logic.{⊎-elim}
 use mathlib.Core.List.{List, []}
-use Rattle.ledger.specs.declared.Span.{Span}
+use Rattle.records.specs.declared.Span.{Span}
 use Prim.Native.Nat.{ℕ, _-_, _≤_, _<_, min}
 use native.Mathlib.Nat.{le-refl}
 use native.Mathlib.Omega.{arith}
@@ -13,7 +13,7 @@ use lib.ListN.{length, take, drop, length-drop, drop-of-length-le}
 use lib.Seq.{take-all, take-nil, drop-nil}
 use borrow.Author.Tests.{lt-ltb, le-ltb}
 use Rattle.basics.proofs.Tests.{le-or-gt}
-use Rattle.ledger.specs.Scans.{higher, spanOf}
+use Rattle.records.specs.Columns.{higher, spanOf}
 
 module _ (a b : ℕ) where
   pub min-lt : a < b → min a b ≡ a

@@ -1,8 +1,11 @@
--- `ledger::entry_at` meets its contract: what the record's own operations say, and what is found once. Assumes nothing.
-use Rattle.ledger.proofs.Storing.{entry-codes}
+-- `records::entry_at` meets its contract: what the record's own operations say, and what is found once. Assumes nothing.
+use Rattle.records.proofs.Judged.{entry-codes}
 use borrow.Author.Needs.{needs}
-use Rattle.ledger.proofs.entry_at.Statement.{statement}
-use Rattle.ledger.proofs.entry_at.Tie as tie
+use Rattle.records.proofs.entry_at.Statement.{statement}
+use Rattle.records.proofs.entry_at.Tie as tie
+
+lower-requires : tie.Need-lower-requires
+lower-requires c κs = search needs
 
 span-of-requires : tie.Need-span-of-requires
 span-of-requires c κs = search needs
@@ -45,14 +48,15 @@ flag-of-requires c κs = search needs
 
 returns : tie.Need-returns
 returns c =
-    let s = c .before .before .before .before .before .before .before .before .before .before .before .before .before .before in
-    entry-codes (s .args .facts) (s .args .kinds .now) (s .args .changed .now) (s .args .from) (s .args .to) _ (c .before .before .before .before .before .before .before .before .before .before .before .span-of .ensures .0) _ (c .before .before .before .before .before .before .before .before .before .before .armed-in .ensures) _
+    let s = c .before .before .before .before .before .before .before .before .before .before .before .before .before .before .before in
+    entry-codes (s .args .facts) (s .args .kinds .now) (s .args .changed .now) (s .args .from) (s .args .to) _ (c .before .before .before .before .before .before .before .before .before .before .before .before .lower .ensures .0) _ (c .before .before .before .before .before .before .before .before .before .before .before .span-of .ensures .0) _ (c .before .before .before .before .before .before .before .before .before .before .armed-in .ensures) _
     (c .before .before .before .before .before .before .scan .ensures .0) _ (c .before .before .before .durability-of .ensures) _ _ (c .before .before .code-of .ensures) (c .flag-of .ensures)
 
 pub entry-at-spec : {M : Type 1} → statement M
 entry-at-spec =
     tie.close
     (tie.spec
+    lower-requires
     span-of-requires
     armed-in-requires
     sub-scan

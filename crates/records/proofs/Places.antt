@@ -9,13 +9,13 @@
 use mathlib.Core.Path.{_≡_, refl, sym, ap, _∙_}
 use mathlib.Core.Bool.{Bool, true, false, _||_, cond, or-false, or-true, or-assoc}
 use mathlib.Core.List.{List, [], _∷_, _++_, map}
-use Prim.Native.Nat.{ℕ, zero, suc, _+_, _-_, _≤_, zero-le, suc-le-suc}
+use Prim.Native.Nat.{ℕ, zero, suc, _+_, _≤_, zero-le, suc-le-suc}
 use lib.Dec.{ltb, leb·suc-zero, leb·suc-suc}
 use lib.ListN.{length, take, drop, take-append-drop}
 use lib.Seq.{drop-append-le, drop-drop}
 use borrow.Author.Tests.{lt-ltb}
-use Rattle.ledger.specs.Records.{any, behind}
-use Rattle.ledger.specs.Scans.{lastPlace}
+use Rattle.records.specs.Records.{any, behind}
+use Rattle.records.specs.Columns.{lastPlace}
 
 right-false : (a b : Bool) → (a || b) ≡ false → b ≡ false
 right-false true b e = let z : true ≡ false = e in cc
