@@ -14,6 +14,7 @@ use inject::Progress;
 use ledger::Derived;
 use libc::STDOUT_FILENO;
 use session::Armed;
+use session::Called;
 use session::Counters;
 use session::Started;
 use session::Told;
@@ -36,8 +37,7 @@ fn print(n: u32) {
 }
 
 fn print_code(code: u8) {
-    io::write_all(STDOUT_FILENO, b" ");
-    io::print_decimal(STDOUT_FILENO, code as u64);
+    print(code as u32);
 }
 
 fn progress_of(kind: u32, count: u32) -> Progress {
@@ -78,61 +78,275 @@ fn told_of(op: usize, progress: Progress, interruption: Interruption) -> Told {
     }
 }
 
-// The three programs, by their step.
-fn program(
-    which: usize,
-    told: Told,
-    counters: Counters,
-    media: &mut [u8],
-    copy: &mut [u8],
-    kinds: &mut [u8],
-    offsets: &mut [u32],
-    lens: &mut [u32],
-    digests: &mut [u64],
-    changed: &mut [u8],
-    answered: &mut [u8],
-) -> Counters {
+struct Marks {
+    codes: [u8; 512],
+    names: [u32; 512],
+    places: [u64; 512],
+}
+
+// What a call leaves: the media, the withheld copy, the columns of the log and of the marks, and its answer with the counters. It
+// goes from call to call by value, since a check's time grows with the square of the `&mut` slices that a function hands on: each
+// call lends copies of its own. The log's arrays stand first, and a state before what is told, since the search for their lengths
+// does not reach far.
+struct State {
+    media: [u8; 16],
+    copy: [u8; 16],
+    kinds: [u8; 1024],
+    offsets: [u32; 1024],
+    lens: [u32; 1024],
+    digests: [u64; 1024],
+    changed: [u8; 1024],
+    answered: [u8; 1024],
+    marks: Marks,
+    called: Called,
+}
+
+fn program(state: State, told: Told, offset: u32, bytes: &[u8]) -> State {
+    let before = state.called;
+    let mut media = state.media;
+    let mut copy = state.copy;
+    let mut kinds = state.kinds;
+    let mut offsets = state.offsets;
+    let mut lens = state.lens;
+    let mut digests = state.digests;
+    let mut changed = state.changed;
+    let mut answered = state.answered;
+    let called = session_program::program(
+        told,
+        before.counters,
+        offset,
+        bytes,
+        &mut media,
+        &mut copy,
+        &mut kinds,
+        &mut offsets,
+        &mut lens,
+        &mut digests,
+        &mut changed,
+        &mut answered,
+    );
+    let mut after = state;
+    after.media = media;
+    after.copy = copy;
+    after.kinds = kinds;
+    after.offsets = offsets;
+    after.lens = lens;
+    after.digests = digests;
+    after.changed = changed;
+    after.answered = answered;
+    after.called = called;
+    after
+}
+
+fn erase(state: State, told: Told, offset: u32, len: u32) -> State {
+    let before = state.called;
+    let mut media = state.media;
+    let mut copy = state.copy;
+    let mut kinds = state.kinds;
+    let mut offsets = state.offsets;
+    let mut lens = state.lens;
+    let mut digests = state.digests;
+    let mut changed = state.changed;
+    let mut answered = state.answered;
+    let called = session_erase::erase(
+        told,
+        before.counters,
+        offset,
+        len,
+        &mut media,
+        &mut copy,
+        &mut kinds,
+        &mut offsets,
+        &mut lens,
+        &mut digests,
+        &mut changed,
+        &mut answered,
+    );
+    let mut after = state;
+    after.media = media;
+    after.copy = copy;
+    after.kinds = kinds;
+    after.offsets = offsets;
+    after.lens = lens;
+    after.digests = digests;
+    after.changed = changed;
+    after.answered = answered;
+    after.called = called;
+    after
+}
+
+fn barrier(state: State, told: Told) -> State {
+    let before = state.called;
+    let mut kinds = state.kinds;
+    let mut offsets = state.offsets;
+    let mut lens = state.lens;
+    let mut digests = state.digests;
+    let mut changed = state.changed;
+    let mut answered = state.answered;
+    let called = session_calls::barrier(
+        told,
+        before.counters,
+        &mut kinds,
+        &mut offsets,
+        &mut lens,
+        &mut digests,
+        &mut changed,
+        &mut answered,
+    );
+    let mut after = state;
+    after.kinds = kinds;
+    after.offsets = offsets;
+    after.lens = lens;
+    after.digests = digests;
+    after.changed = changed;
+    after.answered = answered;
+    after.called = called;
+    after
+}
+
+fn begin(state: State, id: u32) -> State {
+    let before = state.called;
+    let mut marks = state.marks;
+    let mut codes = marks.codes;
+    let mut names = marks.names;
+    let mut places = marks.places;
+    let called = session_marks::begin_record(
+        before.counters,
+        id,
+        &mut codes,
+        &mut names,
+        &mut places,
+    );
+    marks.codes = codes;
+    marks.names = names;
+    marks.places = places;
+    let mut after = state;
+    after.marks = marks;
+    after.called = called;
+    after
+}
+
+fn end(state: State) -> State {
+    let before = state.called;
+    let mut marks = state.marks;
+    let mut codes = marks.codes;
+    let mut names = marks.names;
+    let mut places = marks.places;
+    let called = session_marks::end_record(before.counters, &mut codes, &mut names, &mut places);
+    marks.codes = codes;
+    marks.names = names;
+    marks.places = places;
+    let mut after = state;
+    after.marks = marks;
+    after.called = called;
+    after
+}
+
+fn mark(state: State, id: u32, from: u32, to: u32) -> State {
+    let before = state.called;
+    let mut marks = state.marks;
+    let mut codes = marks.codes;
+    let mut names = marks.names;
+    let mut places = marks.places;
+    let called = session_marks::mark_operations(
+        before.counters,
+        id,
+        from,
+        to,
+        &mut codes,
+        &mut names,
+        &mut places,
+    );
+    marks.codes = codes;
+    marks.names = names;
+    marks.places = places;
+    let mut after = state;
+    after.marks = marks;
+    after.called = called;
+    after
+}
+
+// One of the four steps that mark.
+fn mark_step(state: State, which: usize) -> State {
+    if which == 0 {
+        return begin(state, 7);
+    }
+    if which == 3 {
+        return begin(state, 8);
+    }
+    if which == 7 {
+        return end(state);
+    }
+    mark(state, 9, 2, 4)
+}
+
+// One of the ten steps.
+fn step(state: State, told: Told, which: usize) -> State {
     if which == 1 {
-        let half = session_program::program(
-            told,
-            counters,
-            0,
-            &HALF,
-            media,
-            copy,
-            kinds,
-            offsets,
-            lens,
-            digests,
-            changed,
-            answered,
-        );
-        print(half.answer);
-        return half.counters;
+        return program(state, told, 0, &HALF);
     }
     if which == 4 {
-        let zeros = session_program::program(
-            told,
-            counters,
-            4,
-            &ZEROS,
-            media,
-            copy,
-            kinds,
-            offsets,
-            lens,
-            digests,
-            changed,
-            answered,
-        );
-        print(zeros.answer);
-        return zeros.counters;
+        return program(state, told, 4, &ZEROS);
     }
-    let none = session_program::program(
+    if which == 5 {
+        return program(state, told, 8, &NO_BYTES);
+    }
+    if which == 8 {
+        return erase(state, told, 0, 8);
+    }
+    if (which == 2) | (which == 6) {
+        return barrier(state, told);
+    }
+    mark_step(state, which)
+}
+
+fn print_answer(called: Called) {
+    print(called.answer);
+}
+
+// All of them, with their answers.
+fn replay(fresh: State, told: Told) -> State {
+    let mut state = fresh;
+    for which in 0..10 {
+        state = step(state, told, which);
+        print_answer(state.called);
+    }
+    state
+}
+
+// As many entries as there are, of up to sixteen.
+fn print_entries(ids: &[u32; 16], states: &[u8; 16], torn: &[u8; 16], entries: usize) {
+    for place in 0..16 {
+        if place < entries {
+            print(ids[place]);
+            print_code(states[place]);
+            print_code(torn[place]);
+        }
+    }
+}
+
+// The ledger's entries. What refuses a ledger would be its last number. The one lifetime lets fields of one state be lent.
+fn print_derived<'a>(
+    told: Told,
+    counters: Counters,
+    media: &'a [u8; 16],
+    copy: &'a [u8; 16],
+    kinds: &'a [u8; 1024],
+    offsets: &'a [u32; 1024],
+    lens: &'a [u32; 1024],
+    digests: &'a [u64; 1024],
+    changed: &'a [u8; 1024],
+    answered: &'a [u8; 1024],
+    codes: &'a [u8; 512],
+    names: &'a [u32; 512],
+    places: &'a [u64; 512],
+) {
+    let mut ids = [0u32; 16];
+    let mut states = [0u8; 16];
+    let mut torn = [0u8; 16];
+    let derived = ledger::ledger(
         told,
         counters,
-        8,
-        &NO_BYTES,
         media,
         copy,
         kinds,
@@ -141,215 +355,97 @@ fn program(
         digests,
         changed,
         answered,
+        codes,
+        names,
+        places,
+        &mut ids,
+        &mut states,
+        &mut torn,
     );
-    print(none.answer);
-    none.counters
+    match derived {
+        Derived::Entries(entries) => print_entries(&ids, &states, &torn, entries),
+        Derived::NotDerived(number) => print(number),
+    }
 }
 
-// A begin, the end or the range, by their step.
-fn mark(
-    which: usize,
-    counters: Counters,
-    codes: &mut [u8],
-    names: &mut [u32],
-    places: &mut [u64],
-) -> Counters {
-    if which == 0 {
-        let seven = session_marks::begin_record(counters, 7, codes, names, places);
-        print(seven.answer);
-        return seven.counters;
-    }
-    if which == 3 {
-        let eight = session_marks::begin_record(counters, 8, codes, names, places);
-        print(eight.answer);
-        return eight.counters;
-    }
-    if which == 7 {
-        let end = session_marks::end_record(counters, codes, names, places);
-        print(end.answer);
-        return end.counters;
-    }
-    let nine = session_marks::mark_operations(counters, 9, 2, 4, codes, names, places);
-    print(nine.answer);
-    nine.counters
-}
-
-// The erase, or a barrier.
-fn other(
-    which: usize,
-    told: Told,
-    counters: Counters,
-    media: &mut [u8],
-    copy: &mut [u8],
-    kinds: &mut [u8],
-    offsets: &mut [u32],
-    lens: &mut [u32],
-    digests: &mut [u64],
-    changed: &mut [u8],
-    answered: &mut [u8],
-) -> Counters {
-    if which == 8 {
-        let erased = session_erase::erase(
-            told,
-            counters,
-            0,
-            8,
-            media,
-            copy,
-            kinds,
-            offsets,
-            lens,
-            digests,
-            changed,
-            answered,
-        );
-        print(erased.answer);
-        return erased.counters;
-    }
-    let ordered = session_calls::barrier(
+// The ledger of what the steps left.
+fn print_ledger(state: State, told: Told) {
+    let called = state.called;
+    let marks = state.marks;
+    print_derived(
         told,
-        counters,
-        kinds,
-        offsets,
-        lens,
-        digests,
-        changed,
-        answered,
+        called.counters,
+        &state.media,
+        &state.copy,
+        &state.kinds,
+        &state.offsets,
+        &state.lens,
+        &state.digests,
+        &state.changed,
+        &state.answered,
+        &marks.codes,
+        &marks.names,
+        &marks.places,
     );
-    print(ordered.answer);
-    ordered.counters
 }
 
-// One of the ten steps.
-fn step(
-    which: usize,
-    told: Told,
-    counters: Counters,
-    media: &mut [u8],
-    copy: &mut [u8],
-    kinds: &mut [u8],
-    offsets: &mut [u32],
-    lens: &mut [u32],
-    digests: &mut [u64],
-    changed: &mut [u8],
-    answered: &mut [u8],
-    codes: &mut [u8],
-    names: &mut [u32],
-    places: &mut [u64],
-) -> Counters {
-    if (which == 1) | (which == 4) | (which == 5) {
-        return program(
-            which,
-            told,
+// A start looks at the columns' lengths alone: those lent here need not be the state's, and one serves for all of its type.
+fn start(told: Told, media: &mut [u8; 16]) -> Started {
+    let bytes: &[u8] = &[0u8; 1024];
+    let words: &[u32] = &[0u32; 1024];
+    session_calls::start(
+        told,
+        media,
+        &[0u8; 16],
+        bytes,
+        words,
+        words,
+        &[0u64; 1024],
+        bytes,
+        bytes,
+        &[0u8; 512],
+        &[0u32; 512],
+        &[0u64; 512],
+    )
+}
+
+// The state before the first step.
+fn fresh(media: [u8; 16], counters: Counters) -> State {
+    State {
+        media,
+        copy: [0u8; 16],
+        kinds: [0u8; 1024],
+        offsets: [0u32; 1024],
+        lens: [0u32; 1024],
+        digests: [0u64; 1024],
+        changed: [0u8; 1024],
+        answered: [0u8; 1024],
+        marks: Marks {
+            codes: [0u8; 512],
+            names: [0u32; 512],
+            places: [0u64; 512],
+        },
+        called: Called {
+            answer: 0,
             counters,
-            media,
-            copy,
-            kinds,
-            offsets,
-            lens,
-            digests,
-            changed,
-            answered,
-        );
-    }
-    if (which == 2) | (which == 6) | (which == 8) {
-        return other(
-            which,
-            told,
-            counters,
-            media,
-            copy,
-            kinds,
-            offsets,
-            lens,
-            digests,
-            changed,
-            answered,
-        );
-    }
-    mark(which, counters, codes, names, places)
-}
-
-// All of them.
-fn replay(
-    told: Told,
-    fresh: Counters,
-    media: &mut [u8],
-    copy: &mut [u8],
-    kinds: &mut [u8],
-    offsets: &mut [u32],
-    lens: &mut [u32],
-    digests: &mut [u64],
-    changed: &mut [u8],
-    answered: &mut [u8],
-    codes: &mut [u8],
-    names: &mut [u32],
-    places: &mut [u64],
-) -> Counters {
-    let mut counters = fresh;
-    let mut which = 0;
-    while which < 10 {
-        counters = step(
-            which,
-            told,
-            counters,
-            media,
-            copy,
-            kinds,
-            offsets,
-            lens,
-            digests,
-            changed,
-            answered,
-            codes,
-            names,
-            places,
-        );
-        which += 1;
-    }
-    counters
-}
-
-// An entry of the ledger.
-fn print_entry(ids: &[u32], states: &[u8], torn: &[u8], place: usize) {
-    if place < ids.len() {
-        print(ids[place]);
-    }
-    if place < states.len() {
-        print_code(states[place]);
-    }
-    if place < torn.len() {
-        print_code(torn[place]);
+        },
     }
 }
 
-// As many entries as there are, of up to sixteen.
-fn print_entries(ids: &[u32], states: &[u8], torn: &[u8], entries: usize) {
-    for place in 0..16 {
-        if place < entries {
-            print_entry(ids, states, torn, place);
-        }
+// What a line has after its injection. What refuses a start would be its last number.
+fn one_session(told: Told) {
+    let mut media = [0u8; 16];
+    let begun = start(told, &mut media);
+    match begun {
+        Started::Fresh(counters) => print_ledger(replay(fresh(media, counters), told), told),
+        Started::NotStarted(number) => print(number),
     }
 }
 
-// One line. What refuses a start or a ledger would be its last number.
+// One line: the injection, each step's answer, and the ledger.
 fn one_case(place: usize)
     requires { ⌜ place < 126 ⌝ }
 {
-    let mut media = [0u8; 16];
-    let mut copy = [0u8; 16];
-    let mut kinds = [0u8; 1024];
-    let mut offsets = [0u32; 1024];
-    let mut lens = [0u32; 1024];
-    let mut digests = [0u64; 1024];
-    let mut changed = [0u8; 1024];
-    let mut answered = [0u8; 1024];
-    let mut codes = [0u8; 512];
-    let mut names = [0u32; 512];
-    let mut places = [0u64; 512];
-    let mut ids = [0u32; 16];
-    let mut states = [0u8; 16];
-    let mut torn = [0u8; 16];
     let op = place / 18;
     let cause = place / 6 % 3;
     let kind = KINDS[place % 6];
@@ -358,63 +454,7 @@ fn one_case(place: usize)
     print(cause as u32);
     print(kind);
     print(count);
-    let told = told_of(op, progress_of(kind, count), interruption_of(cause));
-    let begun = session_calls::start(
-        told,
-        &mut media,
-        &copy,
-        &kinds,
-        &offsets,
-        &lens,
-        &digests,
-        &changed,
-        &answered,
-        &codes,
-        &names,
-        &places,
-    );
-    match begun {
-        Started::Fresh(fresh) => {
-            let last = replay(
-                told,
-                fresh,
-                &mut media,
-                &mut copy,
-                &mut kinds,
-                &mut offsets,
-                &mut lens,
-                &mut digests,
-                &mut changed,
-                &mut answered,
-                &mut codes,
-                &mut names,
-                &mut places,
-            );
-            let derived = ledger::ledger(
-                told,
-                last,
-                &media,
-                &copy,
-                &kinds,
-                &offsets,
-                &lens,
-                &digests,
-                &changed,
-                &answered,
-                &codes,
-                &names,
-                &places,
-                &mut ids,
-                &mut states,
-                &mut torn,
-            );
-            match derived {
-                Derived::Entries(entries) => print_entries(&ids, &states, &torn, entries),
-                Derived::NotDerived(number) => print(number),
-            }
-        }
-        Started::NotStarted(number) => print(number),
-    }
+    one_session(told_of(op, progress_of(kind, count), interruption_of(cause)));
     io::write_all(STDOUT_FILENO, b"\n");
 }
 

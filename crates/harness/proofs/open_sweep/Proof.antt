@@ -3,7 +3,6 @@ use mathlib.Core.Path.{sym, _∙_}
 use Rattle.session.specs.Log.{Log, logOf, Marks, marksOf}
 use Rattle.script.specs.Columns.{Columns, columns}
 use Rattle.harness.proofs.Parts.{open-refused, open-failed, open-runs, open-ready, log-even}
-use borrow.Author.Needs.{needs}
 use Rattle.harness.proofs.open_sweep.Statement.{statement}
 use Rattle.harness.proofs.open_sweep.Tie as tie
 
@@ -17,49 +16,49 @@ abbrev marks : tie.Start → Marks
 marks s = marksOf (s .args .marks .now) (s .args .named .now) (s .args .places .now)
 
 told-by-requires : tie.Need-told-by-requires
-told-by-requires c κs = search needs
+told-by-requires c κs = tt
 
 run-script-requires : tie.Need-run-script-requires
-run-script-requires c κs = search needs
+run-script-requires c κs = tt
 
 enum-known-ran : tie.Need-enum-known-ran
-enum-known-ran c = search needs
+enum-known-ran c = c .match .keys1
 
 enum-known-ran-2 : tie.Need-enum-known-ran-2
-enum-known-ran-2 c = search needs
+enum-known-ran-2 c = c .match .keys2
 
 same-length : tie.Need-same-length
-same-length c = search needs
+same-length c = c .before .before .before .before .before .before .before .before .before .before .before .before .before .before .before .before .before .before .before .before .before .before .before .before .before .media .given
 
 same-length-2 : tie.Need-same-length-2
-same-length-2 c = search needs
+same-length-2 c = c .before .before .before .before .before .before .before .before .before .before .before .before .before .before .before .before .before .before .before .before .before .before .before .copy .given
 
 same-length-3 : tie.Need-same-length-3
-same-length-3 c = search needs
+same-length-3 c = c .before .before .before .before .before .before .before .before .before .before .before .before .before .before .before .before .before .before .before .before .before .ops .given
 
 same-length-4 : tie.Need-same-length-4
-same-length-4 c = search needs
+same-length-4 c = c .before .before .before .before .before .before .before .before .before .before .before .before .before .before .before .before .before .before .before .spans .given
 
 same-length-5 : tie.Need-same-length-5
-same-length-5 c = search needs
+same-length-5 c = c .before .before .before .before .before .before .before .before .before .before .before .before .before .before .before .before .before .sizes .given
 
 same-length-6 : tie.Need-same-length-6
-same-length-6 c = search needs
+same-length-6 c = c .before .before .before .before .before .before .before .before .before .before .before .before .before .before .before .digests .given
 
 same-length-7 : tie.Need-same-length-7
-same-length-7 c = search needs
+same-length-7 c = c .before .before .before .before .before .before .before .before .before .before .before .before .before .changed .given
 
 same-length-8 : tie.Need-same-length-8
-same-length-8 c = search needs
+same-length-8 c = c .before .before .before .before .before .before .before .before .before .before .before .answered .given
 
 same-length-9 : tie.Need-same-length-9
-same-length-9 c = search needs
+same-length-9 c = c .before .before .before .before .before .before .before .before .before .marks .given
 
 same-length-10 : tie.Need-same-length-10
-same-length-10 c = search needs
+same-length-10 c = c .before .before .before .before .before .before .before .named .given
 
 same-length-11 : tie.Need-same-length-11
-same-length-11 c = search needs
+same-length-11 c = c .before .before .before .before .before .places .given
 
 returns : tie.Need-returns
 returns c =
@@ -76,37 +75,37 @@ open-points-requires c κs =
     )
 
 same-length-12 : tie.Need-same-length-12
-same-length-12 c = search needs
+same-length-12 c = c .before .before .before .before .before .before .before .before .before .before .before .before .before .before .before .before .before .before .before .before .before .before .before .before .media .given
 
 same-length-13 : tie.Need-same-length-13
-same-length-13 c = search needs
+same-length-13 c = c .before .before .before .before .before .before .before .before .before .before .before .before .before .before .before .before .before .before .before .before .before .before .copy .given
 
 same-length-14 : tie.Need-same-length-14
-same-length-14 c = search needs
+same-length-14 c = c .before .before .before .before .before .before .before .before .before .before .before .before .before .before .before .before .before .before .before .before .ops .given
 
 same-length-15 : tie.Need-same-length-15
-same-length-15 c = search needs
+same-length-15 c = c .before .before .before .before .before .before .before .before .before .before .before .before .before .before .before .before .before .before .spans .given
 
 same-length-16 : tie.Need-same-length-16
-same-length-16 c = search needs
+same-length-16 c = c .before .before .before .before .before .before .before .before .before .before .before .before .before .before .before .before .sizes .given
 
 same-length-17 : tie.Need-same-length-17
-same-length-17 c = search needs
+same-length-17 c = c .before .before .before .before .before .before .before .before .before .before .before .before .before .before .digests .given
 
 same-length-18 : tie.Need-same-length-18
-same-length-18 c = search needs
+same-length-18 c = c .before .before .before .before .before .before .before .before .before .before .before .before .changed .given
 
 same-length-19 : tie.Need-same-length-19
-same-length-19 c = search needs
+same-length-19 c = c .before .before .before .before .before .before .before .before .before .before .answered .given
 
 same-length-20 : tie.Need-same-length-20
-same-length-20 c = search needs
+same-length-20 c = c .before .before .before .before .before .before .before .before .marks .given
 
 same-length-21 : tie.Need-same-length-21
-same-length-21 c = search needs
+same-length-21 c = c .before .before .before .before .before .before .named .given
 
 same-length-22 : tie.Need-same-length-22
-same-length-22 c = search needs
+same-length-22 c = c .before .before .before .before .places .given
 
 returns-2 : tie.Need-returns-2
 returns-2 c =
@@ -114,37 +113,37 @@ returns-2 c =
     open-refused (s .args .head) (s .args .rows) (made s) (s .args .media .now) (s .args .copy .now) (log s) (marks s) _ _ _ _ _ _ (c .before .before .before .before .before .before .before .before .before .before .before .before .before .before .before .before .before .before .before .before .before .before .before .before .before .before .before .before .before .before .before .before .before .before .before .before .before .told-by .ensures) (c .before .before .before .before .before .before .before .before .before .before .before .before .before .before .before .before .before .before .before .before .before .before .before .before .before .run-script .ensures) _ (c .before .ran .given .1)
 
 same-length-23 : tie.Need-same-length-23
-same-length-23 c = search needs
+same-length-23 c = c .before .before .before .before .before .before .before .before .before .before .before .before .before .before .before .before .before .before .before .before .before .before .before .before .before .before .before .before .before .media .given
 
 same-length-24 : tie.Need-same-length-24
-same-length-24 c = search needs
+same-length-24 c = c .before .before .before .before .before .before .before .before .before .before .before .before .before .before .before .before .before .before .before .before .before .before .before .before .before .before .before .copy .given
 
 same-length-25 : tie.Need-same-length-25
-same-length-25 c = search needs
+same-length-25 c = c .before .before .before .before .before .before .before .before .before .before .before .before .before .before .before .before .before .before .before .before .before .before .before .before .before .ops .given
 
 same-length-26 : tie.Need-same-length-26
-same-length-26 c = search needs
+same-length-26 c = c .before .before .before .before .before .before .before .before .before .before .before .before .before .before .before .before .before .before .before .before .before .before .before .spans .given
 
 same-length-27 : tie.Need-same-length-27
-same-length-27 c = search needs
+same-length-27 c = c .before .before .before .before .before .before .before .before .before .before .before .before .before .before .before .before .before .before .before .before .before .sizes .given
 
 same-length-28 : tie.Need-same-length-28
-same-length-28 c = search needs
+same-length-28 c = c .before .before .before .before .before .before .before .before .before .before .before .before .before .before .before .before .before .before .before .digests .given
 
 same-length-29 : tie.Need-same-length-29
-same-length-29 c = search needs
+same-length-29 c = c .before .before .before .before .before .before .before .before .before .before .before .before .before .before .before .before .before .changed .given
 
 same-length-30 : tie.Need-same-length-30
-same-length-30 c = search needs
+same-length-30 c = c .before .before .before .before .before .before .before .before .before .before .before .before .before .before .before .answered .given
 
 same-length-31 : tie.Need-same-length-31
-same-length-31 c = search needs
+same-length-31 c = c .before .before .before .before .before .before .before .before .before .before .before .before .before .marks .given
 
 same-length-32 : tie.Need-same-length-32
-same-length-32 c = search needs
+same-length-32 c = c .before .before .before .before .before .before .before .before .before .before .before .named .given
 
 same-length-33 : tie.Need-same-length-33
-same-length-33 c = search needs
+same-length-33 c = c .before .before .before .before .before .before .before .before .before .places .given
 
 returns-3 : tie.Need-returns-3
 returns-3 c =

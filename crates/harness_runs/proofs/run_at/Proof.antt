@@ -3,7 +3,6 @@ use Rattle.session.specs.Log.{Log, logOf, Marks, marksOf}
 use Rattle.ledger.specs.Ledger.{Entered, enteredOf}
 use Rattle.script.specs.Columns.{Columns, columns}
 use Rattle.harness_runs.proofs.Parts.{at-refused, at-never, at-ended}
-use borrow.Author.Needs.{needs}
 use Rattle.harness_runs.proofs.run_at.Statement.{statement}
 use Rattle.harness_runs.proofs.run_at.Tie as tie
 
@@ -21,16 +20,16 @@ abbrev entries : tie.Start → Entered
 entries s = enteredOf (s .args .ids .now) (s .args .states .now) (s .args .torn .now)
 
 log-uneven-requires : tie.Need-log-uneven-requires
-log-uneven-requires c κs = search needs
+log-uneven-requires c κs = tt
 
 marks-uneven-requires : tie.Need-marks-uneven-requires
-marks-uneven-requires c κs = search needs
+marks-uneven-requires c κs = tt
 
 entries-uneven-requires : tie.Need-entries-uneven-requires
-entries-uneven-requires c κs = search needs
+entries-uneven-requires c κs = tt
 
 rows-refusal-requires : tie.Need-rows-refusal-requires
-rows-refusal-requires c κs = search needs
+rows-refusal-requires c κs = tt
 
 returns : tie.Need-returns
 returns c =
@@ -38,49 +37,49 @@ returns c =
     at-refused (s .args .head) (s .args .armed) (s .args .rows) (made s) (s .args .media .now) (s .args .copy .now) (log s) (marks s) (entries s) _ _ _ _ (c .before .before .before .before .before .log-uneven .ensures) (c .before .before .before .before .marks-uneven .ensures) (c .before .before .before .entries-uneven .ensures) (c .before .rows-refusal .ensures) (c .if1 .taken)
 
 told-by-requires : tie.Need-told-by-requires
-told-by-requires c κs = search needs
+told-by-requires c κs = tt
 
 run-script-requires : tie.Need-run-script-requires
-run-script-requires c κs = search needs
+run-script-requires c κs = tt
 
 enum-known-ran : tie.Need-enum-known-ran
-enum-known-ran c = search needs
+enum-known-ran c = c .match .keys1
 
 enum-told : tie.Need-enum-told
-enum-told c = search needs
+enum-told c = c .match .keys2
 
 same-length : tie.Need-same-length
-same-length c = search needs
+same-length c = c .before .before .before .before .before .before .before .before .before .before .before .before .before .before .before .before .before .before .before .before .before .before .before .media .given
 
 same-length-2 : tie.Need-same-length-2
-same-length-2 c = search needs
+same-length-2 c = c .before .before .before .before .before .before .before .before .before .before .before .before .before .before .before .before .before .before .before .before .before .copy .given
 
 same-length-3 : tie.Need-same-length-3
-same-length-3 c = search needs
+same-length-3 c = c .before .before .before .before .before .before .before .before .before .before .before .before .before .before .before .before .before .before .before .ops .given
 
 same-length-4 : tie.Need-same-length-4
-same-length-4 c = search needs
+same-length-4 c = c .before .before .before .before .before .before .before .before .before .before .before .before .before .before .before .before .before .spans .given
 
 same-length-5 : tie.Need-same-length-5
-same-length-5 c = search needs
+same-length-5 c = c .before .before .before .before .before .before .before .before .before .before .before .before .before .before .before .sizes .given
 
 same-length-6 : tie.Need-same-length-6
-same-length-6 c = search needs
+same-length-6 c = c .before .before .before .before .before .before .before .before .before .before .before .before .before .digests .given
 
 same-length-7 : tie.Need-same-length-7
-same-length-7 c = search needs
+same-length-7 c = c .before .before .before .before .before .before .before .before .before .before .before .changed .given
 
 same-length-8 : tie.Need-same-length-8
-same-length-8 c = search needs
+same-length-8 c = c .before .before .before .before .before .before .before .before .before .answered .given
 
 same-length-9 : tie.Need-same-length-9
-same-length-9 c = search needs
+same-length-9 c = c .before .before .before .before .before .before .before .marks .given
 
 same-length-10 : tie.Need-same-length-10
-same-length-10 c = search needs
+same-length-10 c = c .before .before .before .before .before .named .given
 
 same-length-11 : tie.Need-same-length-11
-same-length-11 c = search needs
+same-length-11 c = c .before .before .before .places .given
 
 returns-2 : tie.Need-returns-2
 returns-2 c =
@@ -88,10 +87,10 @@ returns-2 c =
     absurd (at-never (s .args .head) (s .args .armed) (s .args .rows) (made s) (s .args .media .now) (s .args .copy .now) (log s) (marks s) (entries s) _ _ _ _ (c .before .before .before .before .before .before .before .before .before .before .before .before .before .before .before .before .before .before .before .before .before .before .before .before .before .before .before .before .before .before .before .before .before .before .before .before .before .before .before .before .before .before .log-uneven .ensures) (c .before .before .before .before .before .before .before .before .before .before .before .before .before .before .before .before .before .before .before .before .before .before .before .before .before .before .before .before .before .before .before .before .before .before .before .before .before .before .before .before .before .marks-uneven .ensures) (c .before .before .before .before .before .before .before .before .before .before .before .before .before .before .before .before .before .before .before .before .before .before .before .before .before .before .before .before .before .before .before .before .before .before .before .before .before .before .before .before .entries-uneven .ensures) (c .before .before .before .before .before .before .before .before .before .before .before .before .before .before .before .before .before .before .before .before .before .before .before .before .before .before .before .before .before .before .before .before .before .before .before .before .before .before .rows-refusal .ensures) (c .before .before .before .before .before .before .before .before .before .before .before .before .before .before .before .before .before .before .before .before .before .before .before .before .before .before .before .before .before .before .before .before .before .before .before .before .before .if1 .left) _ (c .before .before .before .before .before .before .before .before .before .before .before .before .before .before .before .before .before .before .before .before .before .before .before .before .before .before .before .before .before .before .before .before .before .before .before .before .told-by .ensures) _ _ _ _ _ (c .before .before .before .before .before .before .before .before .before .before .before .before .before .before .before .before .before .before .before .before .before .before .before .before .run-script .ensures) _ (c .enum-told .given .1))
 
 ledger-requires : tie.Need-ledger-requires
-ledger-requires c κs = search needs
+ledger-requires c κs = tt
 
 ended-requires : tie.Need-ended-requires
-ended-requires c κs = search needs
+ended-requires c κs = tt
 
 same-length-12 : tie.Need-same-length-12
 same-length-12 c =

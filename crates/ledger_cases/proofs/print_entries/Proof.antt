@@ -13,8 +13,26 @@ abbrev μ-loop : tie.MeasureT-loop
 loop-holds : tie.Need-loop-holds Inv-loop μ-loop
 loop-holds c = search needs
 
-print-entry-requires : tie.Need-print-entry-requires Inv-loop μ-loop
-print-entry-requires c κs = search needs
+mul-print : tie.Need-mul-print Inv-loop μ-loop
+mul-print c = search needs
+
+element-copy-out-print : tie.Need-element-copy-out-print Inv-loop μ-loop
+element-copy-out-print c = search needs
+
+print-requires : tie.Need-print-requires Inv-loop μ-loop
+print-requires c κs = search needs
+
+element-copy-out-print-code : tie.Need-element-copy-out-print-code Inv-loop μ-loop
+element-copy-out-print-code c = search needs
+
+print-code-requires : tie.Need-print-code-requires Inv-loop μ-loop
+print-code-requires c κs = search needs
+
+element-copy-out-print-code-2 : tie.Need-element-copy-out-print-code-2 Inv-loop μ-loop
+element-copy-out-print-code-2 c = search needs
+
+print-code-requires-2 : tie.Need-print-code-requires-2 Inv-loop μ-loop
+print-code-requires-2 c κs = search needs
 
 add-place : tie.Need-add-place Inv-loop μ-loop
 add-place c = search needs
@@ -35,7 +53,13 @@ print-entries-spec =
     Inv-loop
     μ-loop
     loop-holds
-    print-entry-requires
+    mul-print
+    element-copy-out-print
+    print-requires
+    element-copy-out-print-code
+    print-code-requires
+    element-copy-out-print-code-2
+    print-code-requires-2
     add-place
     loop-less
     loop-again

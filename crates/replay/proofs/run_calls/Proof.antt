@@ -42,7 +42,7 @@ shared-slice-read-call-2 c =
     let l = c .before .before .before in
     let st = l .before .before .before .before .before .before .before .before .before .before .before .before .before .before .before .before .before .before .before in
     let h : l .loop .i < length (st .args .ids .now) = omega (arith, st .pre .even .ids-even) in
-    search needs
+    h
 
 mul-call-2 : tie.Need-mul-call-2 Inv-loop μ-loop
 mul-call-2 c =
@@ -56,7 +56,7 @@ shared-slice-read-call-3 c =
     let l = c .before .before .before .before in
     let st = l .before .before .before .before .before .before .before .before .before .before .before .before .before .before .before .before .before .before .before in
     let h : l .loop .i < length (st .args .offsets .now) = omega (arith, st .pre .even .offsets-even) in
-    search needs
+    h
 
 mul-call-3 : tie.Need-mul-call-3 Inv-loop μ-loop
 mul-call-3 c =
@@ -70,7 +70,7 @@ shared-slice-read-call-4 c =
     let l = c .before .before .before .before .before in
     let st = l .before .before .before .before .before .before .before .before .before .before .before .before .before .before .before .before .before .before .before in
     let h : l .loop .i < length (st .args .lens .now) = omega (arith, st .pre .even .lens-even) in
-    search needs
+    h
 
 mul-call-4 : tie.Need-mul-call-4 Inv-loop μ-loop
 mul-call-4 c =
@@ -84,7 +84,7 @@ shared-slice-read-call-5 c =
     let l = c .before .before .before .before .before .before in
     let st = l .before .before .before .before .before .before .before .before .before .before .before .before .before .before .before .before .before .before .before in
     let h : l .loop .i < length (st .args .starts .now) = omega (arith, st .pre .even .starts-even) in
-    search needs
+    h
 
 call-requires : tie.Need-call-requires Inv-loop μ-loop
 call-requires c κs =
@@ -122,40 +122,40 @@ loop-again c =
     (omega (arith, h), z .left, a, (simp length-set (l .loop .inv .3 .0), c .before .before .before .before .before .before .before .before .before .before .before .before .before .before .before .before .before .before .before .before .before .before .media .given ∙ l .loop .inv .3 .1, c .before .before .before .before .before .before .before .before .before .before .before .before .before .before .before .before .before .before .before .before .copy .given ∙ l .loop .inv .3 .2, c .before .before .before .before .before .before .before .before .before .before .before .before .before .before .before .before .before .before .ops .given ∙ l .loop .inv .3 .3, c .before .before .before .before .before .before .before .before .before .before .before .before .before .before .before .before .spans .given ∙ l .loop .inv .3 .4, c .before .before .before .before .before .before .before .before .before .before .before .before .before .before .sizes .given ∙ l .loop .inv .3 .5, c .before .before .before .before .before .before .before .before .before .before .before .before .digests .given ∙ l .loop .inv .3 .6, c .before .before .before .before .before .before .before .before .before .before .changed .given ∙ l .loop .inv .3 .7, c .before .before .before .before .before .before .before .before .answered .given ∙ l .loop .inv .3 .8, c .before .before .before .before .before .before .marks .given ∙ l .loop .inv .3 .9, c .before .before .before .before .named .given ∙ l .loop .inv .3 .10, c .before .before .places .given ∙ l .loop .inv .3 .11))
 
 same-length : tie.Need-same-length Inv-loop μ-loop
-same-length c = search needs
+same-length c = c .before .loop .inv .3 .0
 
 same-length-2 : tie.Need-same-length-2 Inv-loop μ-loop
-same-length-2 c = search needs
+same-length-2 c = c .before .loop .inv .3 .1
 
 same-length-3 : tie.Need-same-length-3 Inv-loop μ-loop
-same-length-3 c = search needs
+same-length-3 c = c .before .loop .inv .3 .2
 
 same-length-4 : tie.Need-same-length-4 Inv-loop μ-loop
-same-length-4 c = search needs
+same-length-4 c = c .before .loop .inv .3 .3
 
 same-length-5 : tie.Need-same-length-5 Inv-loop μ-loop
-same-length-5 c = search needs
+same-length-5 c = c .before .loop .inv .3 .4
 
 same-length-6 : tie.Need-same-length-6 Inv-loop μ-loop
-same-length-6 c = search needs
+same-length-6 c = c .before .loop .inv .3 .5
 
 same-length-7 : tie.Need-same-length-7 Inv-loop μ-loop
-same-length-7 c = search needs
+same-length-7 c = c .before .loop .inv .3 .6
 
 same-length-8 : tie.Need-same-length-8 Inv-loop μ-loop
-same-length-8 c = search needs
+same-length-8 c = c .before .loop .inv .3 .7
 
 same-length-9 : tie.Need-same-length-9 Inv-loop μ-loop
-same-length-9 c = search needs
+same-length-9 c = c .before .loop .inv .3 .8
 
 same-length-10 : tie.Need-same-length-10 Inv-loop μ-loop
-same-length-10 c = search needs
+same-length-10 c = c .before .loop .inv .3 .9
 
 same-length-11 : tie.Need-same-length-11 Inv-loop μ-loop
-same-length-11 c = search needs
+same-length-11 c = c .before .loop .inv .3 .10
 
 same-length-12 : tie.Need-same-length-12 Inv-loop μ-loop
-same-length-12 c = search needs
+same-length-12 c = c .before .loop .inv .3 .11
 
 returns : tie.Need-returns Inv-loop μ-loop
 returns c =

@@ -17,10 +17,10 @@ apply-erase-requires-2 : tie.Need-apply-erase-requires-2
 apply-erase-requires-2 c κs = search needs
 
 same-length : tie.Need-same-length
-same-length c = search needs
+same-length c = c .before .before .before .before .before .media .given
 
 same-length-2 : tie.Need-same-length-2
-same-length-2 c = search needs
+same-length-2 c = c .before .copy .given
 
 returns : tie.Need-returns
 returns c = landing _ _ _ _ _ _ _ _ _ (c .before .before .before .before .before .before .apply-erase .ensures) (c .before .before .apply-erase2 .ensures)

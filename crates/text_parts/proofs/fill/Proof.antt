@@ -5,7 +5,6 @@ use mathlib.Core.List.{List}
 use Prim.Native.Nat.{ℕ, _-_, _≤_}
 use native.Mathlib.Omega.{arith}
 use lib.ListN.{length}
-use borrow.Author.Needs.{needs}
 use Rattle.script.specs.declared.Head.{Head}
 use Rattle.script.specs.Columns.{Columns, columns}
 use Rattle.run_lines.specs.RunLine.{RunPut, runLineCall}
@@ -30,13 +29,13 @@ loop-holds : tie.Need-loop-holds Inv-loop μ-loop
 loop-holds c = (refl, refl, omega arith, c .before .before .before .before .before .before .before .before .before .before .pre)
 
 run-line-requires : tie.Need-run-line-requires Inv-loop μ-loop
-run-line-requires c κs = search needs
+run-line-requires c κs = tt
 
 enum-known-line : tie.Need-enum-known-line Inv-loop μ-loop
-enum-known-line c = search needs
+enum-known-line c = c .match .keys1
 
 enum-told : tie.Need-enum-told Inv-loop μ-loop
-enum-told c = search needs
+enum-told c = c .match .keys2
 
 same-length : tie.Need-same-length Inv-loop μ-loop
 same-length c = c .before .before .before .out .given ∙ c .before .before .before .before .before .before .before .loop .inv .1

@@ -1,5 +1,5 @@
 -- `writer::run_script` meets its contract: refused by its number, or run. Assumes nothing.
-use mathlib.Core.Path.{_∙_}
+use mathlib.Core.Path.{refl, _∙_}
 use mathlib.Core.Bool.{Bool}
 use mathlib.Core.List.{List}
 use Prim.Native.Nat.{ℕ}
@@ -7,7 +7,6 @@ use Rattle.session.specs.declared.Told.{Told}
 use Rattle.session.specs.Log.{Log, logOf, Marks, marksOf}
 use Rattle.script.specs.Columns.{Columns, columns}
 use Rattle.writer.proofs.Whole.{run-refused, ready-to-run, never-refused, script-runs}
-use borrow.Author.Needs.{needs}
 use Rattle.writer.proofs.run_script.Statement.{statement}
 use Rattle.writer.proofs.run_script.Tie as tie
 
@@ -37,13 +36,13 @@ abbrev marks : tie.Start → Marks
 marks s = marksOf (s .args .marks .now) (s .args .named .now) (s .args .places .now)
 
 log-uneven-requires : tie.Need-log-uneven-requires
-log-uneven-requires c κs = search needs
+log-uneven-requires c κs = tt
 
 marks-uneven-requires : tie.Need-marks-uneven-requires
-marks-uneven-requires c κs = search needs
+marks-uneven-requires c κs = tt
 
 rows-refusal-requires : tie.Need-rows-refusal-requires
-rows-refusal-requires c κs = search needs
+rows-refusal-requires c κs = tt
 
 returns : tie.Need-returns
 returns c =
@@ -51,46 +50,46 @@ returns c =
     run-refused (told s) (on s) (rows s) (made s) (cells s) (held s) (log s) (marks s) _ _ _ (c .before .before .before .before .log-uneven .ensures) (c .before .before .before .marks-uneven .ensures) (c .before .rows-refusal .ensures) (c .if1 .taken)
 
 start-requires : tie.Need-start-requires
-start-requires c κs = search needs
+start-requires c κs = tt
 
 enum-known-started : tie.Need-enum-known-started
-enum-known-started c = search needs
+enum-known-started c = c .match .keys1
 
 enum-told : tie.Need-enum-told
-enum-told c = search needs
+enum-told c = c .match .keys2
 
 same-length : tie.Need-same-length
-same-length c = search needs
+same-length c = c .before .before .before .media .given
 
 same-length-2 : tie.Need-same-length-2
-same-length-2 c = search needs
+same-length-2 c = refl
 
 same-length-3 : tie.Need-same-length-3
-same-length-3 c = search needs
+same-length-3 c = refl
 
 same-length-4 : tie.Need-same-length-4
-same-length-4 c = search needs
+same-length-4 c = refl
 
 same-length-5 : tie.Need-same-length-5
-same-length-5 c = search needs
+same-length-5 c = refl
 
 same-length-6 : tie.Need-same-length-6
-same-length-6 c = search needs
+same-length-6 c = refl
 
 same-length-7 : tie.Need-same-length-7
-same-length-7 c = search needs
+same-length-7 c = refl
 
 same-length-8 : tie.Need-same-length-8
-same-length-8 c = search needs
+same-length-8 c = refl
 
 same-length-9 : tie.Need-same-length-9
-same-length-9 c = search needs
+same-length-9 c = refl
 
 same-length-10 : tie.Need-same-length-10
-same-length-10 c = search needs
+same-length-10 c = refl
 
 same-length-11 : tie.Need-same-length-11
-same-length-11 c = search needs
+same-length-11 c = refl
 
 returns-2 : tie.Need-returns-2
 returns-2 c =
@@ -98,13 +97,13 @@ returns-2 c =
     absurd (never-refused (told s) (on s) (rows s) (made s) (cells s) (held s) (log s) (marks s) _ _ _ (c .before .before .before .before .before .before .before .before .before .before .before .before .before .before .before .before .before .before .before .before .log-uneven .ensures) (c .before .before .before .before .before .before .before .before .before .before .before .before .before .before .before .before .before .before .before .marks-uneven .ensures) (c .before .before .before .before .before .before .before .before .before .before .before .before .before .before .before .before .before .rows-refusal .ensures) (c .before .before .before .before .before .before .before .before .before .before .before .before .before .before .before .before .if1 .left) _ _ _ (c .before .before .before .before .start .ensures) (c .enum-told .given .1))
 
 fill-erased-requires : tie.Need-fill-erased-requires
-fill-erased-requires c κs = search needs
+fill-erased-requires c κs = tt
 
 clear-log-requires : tie.Need-clear-log-requires
-clear-log-requires c κs = search needs
+clear-log-requires c κs = tt
 
 clear-marks-requires : tie.Need-clear-marks-requires
-clear-marks-requires c κs = search needs
+clear-marks-requires c κs = tt
 
 write-rows-requires : tie.Need-write-rows-requires
 write-rows-requires c κs =

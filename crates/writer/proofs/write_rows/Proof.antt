@@ -37,7 +37,7 @@ shared-slice-read-line-call c =
     let st = l .before .before .before .before .before .before .before .before .before .before .before .before .before .before .before .before .before .before in
     let t = c .before .loop-test .taken in
     let h : l .loop .i < length (st .args .kinds .now) = omega (arith, t, st .pre .room) in
-    search needs
+    h
 
 mul-line-call : tie.Need-mul-line-call Inv-loop μ-loop
 mul-line-call c =
@@ -53,7 +53,7 @@ shared-slice-read-line-call-2 c =
     let st = l .before .before .before .before .before .before .before .before .before .before .before .before .before .before .before .before .before .before in
     let t = c .before .before .loop-test .taken in
     let h : l .loop .i < length (st .args .firsts .now) = omega (arith, t, st .pre .room, st .pre .firsts-even) in
-    search needs
+    h
 
 mul-line-call-2 : tie.Need-mul-line-call-2 Inv-loop μ-loop
 mul-line-call-2 c =
@@ -69,7 +69,7 @@ shared-slice-read-line-call-3 c =
     let st = l .before .before .before .before .before .before .before .before .before .before .before .before .before .before .before .before .before .before in
     let t = c .before .before .before .loop-test .taken in
     let h : l .loop .i < length (st .args .seconds .now) = omega (arith, t, st .pre .room, st .pre .seconds-even) in
-    search needs
+    h
 
 mul-line-call-3 : tie.Need-mul-line-call-3 Inv-loop μ-loop
 mul-line-call-3 c =
@@ -85,7 +85,7 @@ shared-slice-read-line-call-4 c =
     let st = l .before .before .before .before .before .before .before .before .before .before .before .before .before .before .before .before .before .before in
     let t = c .before .before .before .before .loop-test .taken in
     let h : l .loop .i < length (st .args .thirds .now) = omega (arith, t, st .pre .room, st .pre .thirds-even) in
-    search needs
+    h
 
 mul-line-call-4 : tie.Need-mul-line-call-4 Inv-loop μ-loop
 mul-line-call-4 c =
@@ -101,7 +101,7 @@ shared-slice-read-line-call-5 c =
     let st = l .before .before .before .before .before .before .before .before .before .before .before .before .before .before .before .before .before .before in
     let t = c .before .before .before .before .before .loop-test .taken in
     let h : l .loop .i < length (st .args .starts .now) = omega (arith, t, st .pre .room, st .pre .starts-even) in
-    search needs
+    h
 
 line-call-requires : tie.Need-line-call-requires Inv-loop μ-loop
 line-call-requires c κs =
@@ -184,37 +184,37 @@ loop-again c =
     )
 
 same-length-12 : tie.Need-same-length-12 Inv-loop μ-loop
-same-length-12 c = search needs
+same-length-12 c = c .before .loop .inv .1 .0
 
 same-length-13 : tie.Need-same-length-13 Inv-loop μ-loop
-same-length-13 c = search needs
+same-length-13 c = c .before .loop .inv .1 .1
 
 same-length-14 : tie.Need-same-length-14 Inv-loop μ-loop
-same-length-14 c = search needs
+same-length-14 c = c .before .loop .inv .1 .2
 
 same-length-15 : tie.Need-same-length-15 Inv-loop μ-loop
-same-length-15 c = search needs
+same-length-15 c = c .before .loop .inv .1 .3
 
 same-length-16 : tie.Need-same-length-16 Inv-loop μ-loop
-same-length-16 c = search needs
+same-length-16 c = c .before .loop .inv .1 .4
 
 same-length-17 : tie.Need-same-length-17 Inv-loop μ-loop
-same-length-17 c = search needs
+same-length-17 c = c .before .loop .inv .1 .5
 
 same-length-18 : tie.Need-same-length-18 Inv-loop μ-loop
-same-length-18 c = search needs
+same-length-18 c = c .before .loop .inv .1 .6
 
 same-length-19 : tie.Need-same-length-19 Inv-loop μ-loop
-same-length-19 c = search needs
+same-length-19 c = c .before .loop .inv .1 .7
 
 same-length-20 : tie.Need-same-length-20 Inv-loop μ-loop
-same-length-20 c = search needs
+same-length-20 c = c .before .loop .inv .1 .8
 
 same-length-21 : tie.Need-same-length-21 Inv-loop μ-loop
-same-length-21 c = search needs
+same-length-21 c = c .before .loop .inv .1 .9
 
 same-length-22 : tie.Need-same-length-22 Inv-loop μ-loop
-same-length-22 c = search needs
+same-length-22 c = c .before .loop .inv .1 .10
 
 returns-2 : tie.Need-returns-2 Inv-loop μ-loop
 returns-2 c =
