@@ -33,13 +33,13 @@ taken g unit media offset len m s =
     record { sized = e; span = w; fits = rw e (w .inside) }
 
 buffered : (g : Geometry) (unit media offset buffer : ℕ)
-    → firstOf (mediaTest g media ∷ geometryTest g ∷ bufferTest buffer ∷ spanTest g unit offset buffer ∷ []) ≡ 0 → Taken g unit media offset buffer
+    → firstOf (geometryTest g ∷ bufferTest buffer ∷ spanTest g unit offset buffer ∷ mediaTest g media ∷ []) ≡ 0 → Taken g unit media offset buffer
 buffered g unit media offset buffer e =
-    let one = firstOf-zero (mediaTest g media) (geometryTest g ∷ bufferTest buffer ∷ spanTest g unit offset buffer ∷ []) e in
-    let two = firstOf-zero (geometryTest g) (bufferTest buffer ∷ spanTest g unit offset buffer ∷ []) (one .1) in
-    let three = firstOf-zero (bufferTest buffer) (spanTest g unit offset buffer ∷ []) (two .1) in
-    let four = firstOf-zero (spanTest g unit offset buffer) [] (three .1) in
-    taken g unit media offset buffer (one .0) (four .0)
+    let one = firstOf-zero (geometryTest g) (bufferTest buffer ∷ spanTest g unit offset buffer ∷ mediaTest g media ∷ []) e in
+    let two = firstOf-zero (bufferTest buffer) (spanTest g unit offset buffer ∷ mediaTest g media ∷ []) (one .1) in
+    let three = firstOf-zero (spanTest g unit offset buffer) (mediaTest g media ∷ []) (two .1) in
+    let four = firstOf-zero (mediaTest g media) [] (three .1) in
+    taken g unit media offset buffer (four .0) (three .0)
 
 pub read-known : (g : Geometry) (media offset buffer : ℕ) → readRefusal g media offset buffer ≡ 0 → Taken g (g .«read_size») media offset buffer
 unfolding readRefusal
@@ -52,9 +52,9 @@ write-known g media offset buffer e = buffered g (g .«program_size») media off
 pub erase-known : (g : Geometry) (media offset n : ℕ) → eraseRefusal g media offset n ≡ 0 → Taken g (g .«erase_size») media offset n
 unfolding eraseRefusal
 erase-known g media offset n e =
-    let one = firstOf-zero (mediaTest g media) (eraseTest g offset n ∷ []) e in
-    let two = firstOf-zero (eraseTest g offset n) [] (one .1) in
-    taken g (g .«erase_size») media offset n (one .0) (two .0)
+    let one = firstOf-zero (eraseTest g offset n) (mediaTest g media ∷ []) e in
+    let two = firstOf-zero (mediaTest g media) [] (one .1) in
+    taken g (g .«erase_size») media offset n (two .0) (one .0)
 
 -- and a program that the bit rule lets pass
 pub program-known : (g : Geometry) (rule : OneWayBits) (media : List ℕ) (offset : ℕ) (src : List ℕ) → programRefusal g rule media offset src ≡ 0

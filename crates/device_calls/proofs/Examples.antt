@@ -10,12 +10,13 @@ use Rattle.device.specs.declared.OneWayBits.the-variants.{Absorbed, Rejected}
 use Rattle.device.specs.Media.{anyPair, wouldSetABit}
 use Rattle.device_calls.specs.Calls.{writeRefusal, eraseRefusal, programRefusal}
 
--- two cells, units of one: the media's length, the span, and the bit rule last
+-- two cells, units of one: the span, then the media's length, and the bit rule last
 pub refusals :
-    (programRefusal (geometryOf 2 2 1 1) Rejected (0 ∷ []) 0 (1 ∷ []) ≡ 7)
+    (programRefusal (geometryOf 2 2 1 1) Rejected (0 ∷ []) 2 (1 ∷ []) ≡ 6)
+    × (programRefusal (geometryOf 2 2 1 1) Rejected (0 ∷ []) 0 (1 ∷ []) ≡ 7)
     × (programRefusal (geometryOf 2 2 1 1) Rejected (0 ∷ 0 ∷ []) 2 (1 ∷ []) ≡ 6)
     × (programRefusal (geometryOf 2 2 1 1) Rejected (0 ∷ 0 ∷ []) 0 (1 ∷ []) ≡ 20)
     × (programRefusal (geometryOf 2 2 1 1) Absorbed (0 ∷ 0 ∷ []) 0 (1 ∷ []) ≡ 0)
     × (eraseRefusal (geometryOf 2 2 1 1) 2 1 1 ≡ 4)
 unfolding programRefusal writeRefusal eraseRefusal geometryTest spanTest firstOf unless refuseIf wouldSetABit part anyPair ones
-refusals = (refl, refl, refl, refl, refl)
+refusals = (refl, refl, refl, refl, refl, refl)

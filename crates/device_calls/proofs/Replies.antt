@@ -1,5 +1,5 @@
 -- The device's own calls: from the checks of the code to the number of the definitions, and from the number to the reply.
---     media-refused, media-legal, media-illegal    the media's length, then the geometry's answer
+--     media-illegal, media-refused, media-legal    the geometry's answer, then the media's length
 --     too-long, long-legal, long-illegal           a buffer longer than a u32 can count
 --     span-passed                                  any other buffer
 --     read-refused, read-fits, read-accepted                       what a read leaves
@@ -43,35 +43,34 @@ use Rattle.basics.proofs.Tests.{unless-le, firstOf-le, firstOf-none}
 use Rattle.storage.proofs.Numbers.{span-most, refusal-number}
 use Rattle.device_calls.proofs.Numbers.{small-geometry, reply-numbered}
 
--- ---- the media's length, then what the geometry answered
+-- ---- what the geometry answered, then the media's length
 
 module _ (g : Geometry) (media : ℕ) where
-  pub media-refused : (n : ℕ) → (media ≡ g .capacity → ⊥) → Refused fault.MediaLength ≡ replied (firstOf (mediaTest g media ∷ n ∷ []))
+  pub media-refused : (checked : Validated) → checked ≡ Legal → (media ≡ g .capacity → ⊥) → Refused fault.MediaLength ≡ replied (firstOf (numberOfValidated checked ∷ mediaTest g media ∷ []))
   unfolding firstOf unless
-  media-refused n h = simp (ne-eqb media (g .capacity) h)
+  media-refused checked e h = simp (ne-eqb media (g .capacity) h, e)
 
-  pub media-legal : (checked : Validated) → media ≡ g .capacity → checked ≡ Legal → Accepted ≡ replied (firstOf (mediaTest g media ∷ numberOfValidated checked ∷ []))
+  pub media-legal : (checked : Validated) → checked ≡ Legal → media ≡ g .capacity → Accepted ≡ replied (firstOf (numberOfValidated checked ∷ mediaTest g media ∷ []))
   unfolding firstOf unless
-  media-legal checked h e = simp (eq-eqb media (g .capacity) h, e)
+  media-legal checked e h = simp (eq-eqb media (g .capacity) h, e)
 
-  replied-error : (error : GeometryError) → Refused (fault.Geometry error) ≡ replied (firstOf (0 ∷ numberOf error ∷ []))
+  replied-error : (error : GeometryError) (n : ℕ) → Refused (fault.Geometry error) ≡ replied (firstOf (numberOf error ∷ n ∷ []))
   unfolding firstOf
-  replied-error ZeroUnit = refl
-  replied-error UnitIsNotAPowerOfTwo = refl
-  replied-error UnitsDoNotNest = refl
-  replied-error MisalignedOffset = refl
-  replied-error MisalignedLength = refl
-  replied-error OutOfBounds = refl
+  replied-error ZeroUnit n = refl
+  replied-error UnitIsNotAPowerOfTwo n = refl
+  replied-error UnitsDoNotNest n = refl
+  replied-error MisalignedOffset n = refl
+  replied-error MisalignedLength n = refl
+  replied-error OutOfBounds n = refl
 
-  pub media-illegal : (checked : Validated) (error : GeometryError) → media ≡ g .capacity → checked ≡ Illegal error
-      → Refused (fault.Geometry error) ≡ replied (firstOf (mediaTest g media ∷ numberOfValidated checked ∷ []))
-  unfolding unless
-  media-illegal checked error h e = rw (eq-eqb media (g .capacity) h, e) (replied-error error)
+  pub media-illegal : (checked : Validated) (error : GeometryError) → checked ≡ Illegal error
+      → Refused (fault.Geometry error) ≡ replied (firstOf (numberOfValidated checked ∷ mediaTest g media ∷ []))
+  media-illegal checked error e = rw e (replied-error error (mediaTest g media))
 
   -- the number in place of the geometry's answer
   pub media-checked : (n : ℕ) (checked : Validated) (r : Reply) → n ≤ 6 → checked ≡ answered n
-      → r ≡ replied (firstOf (mediaTest g media ∷ numberOfValidated checked ∷ [])) → r ≡ replied (firstOf (mediaTest g media ∷ n ∷ []))
-  media-checked n checked r h e told = told ∙ ap (λ (k : ℕ). replied (firstOf (mediaTest g media ∷ k ∷ []))) (ap numberOfValidated e ∙ refusal-number n h)
+      → r ≡ replied (firstOf (numberOfValidated checked ∷ mediaTest g media ∷ [])) → r ≡ replied (firstOf (n ∷ mediaTest g media ∷ []))
+  media-checked n checked r h e told = told ∙ ap (λ (k : ℕ). replied (firstOf (k ∷ mediaTest g media ∷ []))) (ap numberOfValidated e ∙ refusal-number n h)
 
 -- ---- a buffer longer than a u32 can count
 
@@ -88,30 +87,28 @@ pub long-small : (g : Geometry) → firstOf (geometryTest g ∷ 6 ∷ []) ≤ 6
 unfolding firstOf
 long-small g = firstOf-le (geometryTest g) (6 ∷ []) 6 (small-geometry g) (omega arith)
 
-long-order : (m t s : ℕ) → firstOf (m ∷ firstOf (t ∷ 6 ∷ []) ∷ []) ≡ firstOf (m ∷ t ∷ 6 ∷ s ∷ [])
+long-order : (t s m : ℕ) → firstOf (firstOf (t ∷ 6 ∷ []) ∷ m ∷ []) ≡ firstOf (t ∷ 6 ∷ s ∷ m ∷ [])
 unfolding firstOf
-long-order zero zero s = refl
-long-order zero (suc t) s = simp (ne-eqb (suc t) 0 (suc-ne-zero t))
-long-order (suc m) t s = simp (ne-eqb (suc m) 0 (suc-ne-zero m))
+long-order zero s m = refl
+long-order (suc t) s m = simp (ne-eqb (suc t) 0 (suc-ne-zero t))
 
-short-order : (m t : ℕ) (rest : List ℕ) → firstOf (m ∷ firstOf (t ∷ rest) ∷ []) ≡ firstOf (m ∷ t ∷ 0 ∷ firstOf (t ∷ rest) ∷ [])
+short-order : (t m : ℕ) (rest : List ℕ) → firstOf (firstOf (t ∷ rest) ∷ m ∷ []) ≡ firstOf (t ∷ 0 ∷ firstOf (t ∷ rest) ∷ m ∷ [])
 unfolding firstOf
-short-order zero zero rest = refl
-short-order zero (suc t) rest = simp (ne-eqb (suc t) 0 (suc-ne-zero t))
-short-order (suc m) t rest = simp (ne-eqb (suc m) 0 (suc-ne-zero m))
+short-order zero m rest = refl
+short-order (suc t) m rest = simp (ne-eqb (suc t) 0 (suc-ne-zero t))
 
 -- a read or a program, against the unit of its call
 abbrev spanRefusal : Geometry → (unit media offset buffer : ℕ) → ℕ
-spanRefusal g unit media offset buffer = firstOf (mediaTest g media ∷ geometryTest g ∷ bufferTest buffer ∷ spanTest g unit offset buffer ∷ [])
+spanRefusal g unit media offset buffer = firstOf (geometryTest g ∷ bufferTest buffer ∷ spanTest g unit offset buffer ∷ mediaTest g media ∷ [])
 
 module _ (g : Geometry) (unit media offset buffer : ℕ) where
-  pub too-long : 2 ^ 32 ≤ buffer → firstOf (mediaTest g media ∷ firstOf (geometryTest g ∷ 6 ∷ []) ∷ []) ≡ spanRefusal g unit media offset buffer
+  pub too-long : 2 ^ 32 ≤ buffer → firstOf (firstOf (geometryTest g ∷ 6 ∷ []) ∷ mediaTest g media ∷ []) ≡ spanRefusal g unit media offset buffer
   unfolding unless
-  too-long h = rw (le-ltb buffer (2 ^ 32) h) (long-order (mediaTest g media) (geometryTest g) (spanTest g unit offset buffer))
+  too-long h = rw (le-ltb buffer (2 ^ 32) h) (long-order (geometryTest g) (spanTest g unit offset buffer) (mediaTest g media))
 
-  pub span-passed : buffer < 2 ^ 32 → firstOf (mediaTest g media ∷ spanTest g unit offset buffer ∷ []) ≡ spanRefusal g unit media offset buffer
+  pub span-passed : buffer < 2 ^ 32 → firstOf (spanTest g unit offset buffer ∷ mediaTest g media ∷ []) ≡ spanRefusal g unit media offset buffer
   unfolding unless spanTest
-  span-passed h = rw (lt-ltb buffer (2 ^ 32) h) (short-order (mediaTest g media) (geometryTest g) _)
+  span-passed h = rw (lt-ltb buffer (2 ^ 32) h) (short-order (geometryTest g) (mediaTest g media) _)
 
 -- ---- what a call leaves
 
@@ -180,8 +177,8 @@ module _ (g : Geometry) (rule : OneWayBits) (media : List ℕ) (offset : ℕ) (s
 
 span-le : (g : Geometry) (unit media offset buffer : ℕ) → spanRefusal g unit media offset buffer ≤ 7
 span-le g unit media offset buffer =
-    firstOf-le _ _ 7 (unless-le _ 7 7 (omega arith))
-    (firstOf-le _ _ 7 (omega (arith, small-geometry g)) (firstOf-le _ _ 7 (unless-le _ 6 7 (omega arith)) (firstOf-le _ _ 7 (omega (arith, span-most g unit offset buffer)) (firstOf-none 7))))
+    firstOf-le _ _ 7 (omega (arith, small-geometry g))
+    (firstOf-le _ _ 7 (unless-le _ 6 7 (omega arith)) (firstOf-le _ _ 7 (omega (arith, span-most g unit offset buffer)) (firstOf-le _ _ 7 (unless-le _ 7 7 (omega arith)) (firstOf-none 7))))
 
 pub read-number : (g : Geometry) (media : List ℕ) (offset : ℕ) (buffer : List ℕ)
     → numberOfReply (readCall g media offset buffer .reply) ≡ readRefusal g (length media) offset (length buffer)
@@ -192,7 +189,7 @@ pub erase-number : (g : Geometry) (media : List ℕ) (offset n : ℕ)
     → numberOfReply (eraseCall g media offset n .reply) ≡ eraseRefusal g (length media) offset n
 unfolding eraseCall eraseRefusal
 erase-number g media offset n =
-    reply-numbered _ (firstOf-le _ _ 7 (unless-le _ 7 7 (omega arith)) (firstOf-le _ _ 7 (omega (arith, span-most g (g .«erase_size») offset n)) (firstOf-none 7)))
+    reply-numbered _ (firstOf-le _ _ 7 (omega (arith, span-most g (g .«erase_size») offset n)) (firstOf-le _ _ 7 (unless-le _ 7 7 (omega arith)) (firstOf-none 7)))
 
 then-twenty : (w : ℕ) (b : Bool) → w ≤ 7 → numberOfReply (replied (firstOf (w ∷ refuseIf b 20 ∷ []))) ≡ firstOf (w ∷ refuseIf b 20 ∷ [])
 unfolding firstOf refuseIf

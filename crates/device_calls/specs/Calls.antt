@@ -26,21 +26,21 @@ mediaTest g media = unless (eqb media (g .capacity)) 7
 abbrev pub bufferTest : (buffer : ℕ) → ℕ
 bufferTest buffer = unless (ltb buffer (2 ^ 32)) 6
 
--- A call is told refused by the lengths of media and buffer: the media's first, then the geometry, then "6 for a buffer ..
--- before 4 and 5", then the span.
+-- The device's own calls are no session calls: "Elsewhere the lowest number comes first, save that 6 for a buffer comes before 4
+-- and 5". So the geometry, the buffer, the span, then the media; media and buffer are told by their lengths.
 unfoldable pub readRefusal : Geometry → (media offset buffer : ℕ) → ℕ
 readRefusal g media offset buffer =
-    firstOf (mediaTest g media ∷ geometryTest g ∷ bufferTest buffer ∷ readTest g offset buffer ∷ [])
+    firstOf (geometryTest g ∷ bufferTest buffer ∷ readTest g offset buffer ∷ mediaTest g media ∷ [])
 
 unfoldable pub writeRefusal : Geometry → (media offset buffer : ℕ) → ℕ
 writeRefusal g media offset buffer =
-    firstOf (mediaTest g media ∷ geometryTest g ∷ bufferTest buffer ∷ programTest g offset buffer ∷ [])
+    firstOf (geometryTest g ∷ bufferTest buffer ∷ programTest g offset buffer ∷ mediaTest g media ∷ [])
 
 unfoldable pub eraseRefusal : Geometry → (media offset n : ℕ) → ℕ
-eraseRefusal g media offset n = firstOf (mediaTest g media ∷ eraseTest g offset n ∷ [])
+eraseRefusal g media offset n = firstOf (eraseTest g offset n ∷ mediaTest g media ∷ [])
 
 unfoldable pub barrierRefusal : Geometry → (media : ℕ) → ℕ
-barrierRefusal g media = firstOf (mediaTest g media ∷ geometryTest g ∷ [])
+barrierRefusal g media = firstOf (geometryTest g ∷ mediaTest g media ∷ [])
 
 -- "Under rule `Rejected`, a byte with a 1 where its cell has 0 refuses the call with 20": after all the others
 unfoldable pub programRefusal : Geometry → OneWayBits → (media : List ℕ) (offset : ℕ) (src : List ℕ) → ℕ

@@ -1,7 +1,7 @@
 // The device's own calls: a call that the geometry forbids never reaches the media. Follows waymaker-fault's device.rs. Where
 // the Rust's Device owns its bytes, its geometry and its bit rule, here the caller hands them in, so each call tests the
-// media's length first (7). Every contract is an equation: the whole reply and what every lent slice holds at the end, after
-// a refusal too.
+// geometry and the media's length too (1 to 3, 7). Every contract is an equation: the whole reply and what every lent slice
+// holds at the end, after a refusal too.
 use device::OneWayBits;
 use storage::Geometry;
 use storage::GeometryError;
@@ -52,17 +52,18 @@ fn copy_cells(cells: &[u8], dst: &mut [u8])
     }
 }
 
-// What refuses a call: media that are not of capacity length, and then what the geometry's check of it answered.
+// What refuses a call: what the geometry's check of it answered (1 to 6), and then media that are not of capacity length (7):
+// the lowest number comes first.
 fn checked_media(geometry: Geometry, media: usize, checked: Validated) -> Reply
-    ensures { λ r. ⌜ r ≡ replied (firstOf (mediaTest geometry media ∷ numberOfValidated checked ∷ [])) ⌝ }
+    ensures { λ r. ⌜ r ≡ replied (firstOf (numberOfValidated checked ∷ mediaTest geometry media ∷ [])) ⌝ }
 {
+    if let Validated::Illegal(error) = checked {
+        return Reply::Refused(FaultError::Geometry(error));
+    }
     if media != geometry.capacity as usize {
         return Reply::Refused(FaultError::MediaLength);
     }
-    match checked {
-        Validated::Legal => Reply::Accepted,
-        Validated::Illegal(error) => Reply::Refused(FaultError::Geometry(error)),
-    }
+    Reply::Accepted
 }
 
 // What the geometry answers to a buffer longer than a u32 can count: no span of it is within a capacity.
@@ -104,8 +105,8 @@ fn check_program(geometry: Geometry, media: usize, offset: u32, program_len: usi
     )
 }
 
-// Reads `dst.len()` cells at `offset` into `dst`. Refused, with `dst` as it was: 7 for media that are not of capacity length,
-// 1 to 3 for the geometry, 6 for a buffer longer than a u32 can count, 4 to 6 for the span.
+// Reads `dst.len()` cells at `offset` into `dst`. Refused, with `dst` as it was: 1 to 3 for the geometry, 6 for a buffer longer
+// than a u32 can count, 4 to 6 for the span, 7 for media that are not of capacity length.
 pub fn read(geometry: Geometry, media: &[u8], offset: u32, dst: &mut [u8]) -> Reply
     ensures { λ r. ⌜ _≡_ {A = Called} (record { reply = r; content = now (dst .exit) }) (readCall geometry (now (media .entry)) offset (now (dst .entry))) ⌝ }
 {
@@ -143,8 +144,8 @@ pub fn program(
     Reply::Accepted
 }
 
-// Erases `offset..offset + len`: each cell becomes ERASED. Refused, with the media as they were: 7, 1 to 3, then 4 to 6
-// against the erase unit.
+// Erases `offset..offset + len`: each cell becomes ERASED. Refused, with the media as they were: 1 to 3, 4 to 6 against the
+// erase unit, then 7.
 pub fn erase(geometry: Geometry, media: &mut [u8], offset: u32, len: u32) -> Reply
     ensures { λ r. ⌜ _≡_ {A = Called} (record { reply = r; content = now (media .exit) }) (eraseCall geometry (now (media .entry)) offset len) ⌝ }
 {
@@ -156,8 +157,8 @@ pub fn erase(geometry: Geometry, media: &mut [u8], offset: u32, len: u32) -> Rep
     Reply::Accepted
 }
 
-// Succeeds and changes nothing: the media are the durable state. Refused with 7 for media that are not of capacity length and
-// 1 to 3 for the geometry.
+// Succeeds and changes nothing: the media are the durable state. Refused with 1 to 3 for the geometry, then 7 for media that
+// are not of capacity length.
 pub fn barrier(geometry: Geometry, media: &[u8]) -> Reply
     ensures { λ r. ⌜ r ≡ replied (barrierRefusal geometry (length (now (media .entry)))) ⌝ }
 {

@@ -156,15 +156,18 @@ fn units(capacity: u32, erase: u32, program: u32, read: u32) -> Geometry {
     }
 }
 
-// Two devices, units that do not nest, and media shorter than the capacity.
+// Two devices, units that do not nest, media shorter than the capacity, and units of 0 with media.
 fn devices(rule: u32) {
+    let mut one = [0u8; 1];
+    let mut fifteen = [0u8; 15];
     let mut sixteen = [0u8; 16];
     let mut twenty = [0u8; 20];
     let mut twenty_four = [0u8; 24];
     calls(units(16, 8, 4, 4), rule, &mut sixteen);
     calls(units(24, 8, 2, 1), rule, &mut twenty_four);
     calls(units(20, 8, 4, 4), rule, &mut twenty);
-    calls(units(24, 8, 2, 1), rule, &mut sixteen);
+    calls(units(16, 8, 4, 4), rule, &mut fifteen);
+    calls(units(0, 0, 0, 0), rule, &mut one);
 }
 
 // What is asked of the media.

@@ -91,7 +91,7 @@ module _ (h g : Geometry) (same : h ≡ g) (media : List ℕ) (reply : Reply) (l
 barrier-number : (g : Geometry) (media : ℕ) → numberOfReply (replied (barrierRefusal g media)) ≡ barrierRefusal g media
 unfolding barrierRefusal
 barrier-number g media =
-    reply-numbered _ (firstOf-le _ _ 7 (unless-le _ 7 7 (omega arith)) (firstOf-le _ _ 7 (omega (arith, small-geometry g)) (firstOf-none 7)))
+    reply-numbered _ (firstOf-le _ _ 7 (omega (arith, small-geometry g)) (firstOf-le _ _ 7 (unless-le _ 7 7 (omega arith)) (firstOf-none 7)))
 
 pub barrier-told : (h g : Geometry) → h ≡ g → (media : ℕ) (reply : Reply) (r : ℕ)
     → reply ≡ replied (barrierRefusal h media)

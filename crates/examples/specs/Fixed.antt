@@ -1,4 +1,5 @@
--- Document 01, "Fixed examples, P to be proved": the rows marked P, as one statement about the definitions.
+-- Document 01, "Fixed examples, P to be proved": the rows marked P, as one statement about the definitions, and beside them an
+-- order that they do not show.
 -- Definitions only; assumes nothing.
 use mathlib.Core.Path.{_≡_}
 use mathlib.Core.Bool.{Bool, true, false}
@@ -8,8 +9,9 @@ use lib.ListN.{length}
 use Rattle.storage.specs.declared.Geometry.{Geometry}
 use Rattle.storage.specs.Geometry.{geometryOf, geometryTest}
 use Rattle.storage.specs.Span.{programTest}
-use Rattle.device.specs.declared.OneWayBits.the-variants.{Absorbed}
+use Rattle.device.specs.declared.OneWayBits.the-variants.{Absorbed, Rejected}
 use Rattle.device.specs.Media.{newMedia}
+use Rattle.device_calls.specs.Calls.{barrierRefusal, programRefusal}
 use Rattle.inject.specs.declared.Op.the-variants.{Erase, Barrier}
 use Rattle.inject.specs.declared.Progress.the-variants.{Bytes}
 use Rattle.inject.specs.declared.Interruption.{Interruption}
@@ -80,3 +82,11 @@ pub record FixedExamples : Type 0 where
   pub landings : Landings
   pub points : Points
   pub cuts : Cuts
+
+-- ---- beside them: an order that no row shows
+
+-- "Elsewhere the lowest number comes first": on the device's own calls media of another length are told last, by 7. One byte of media
+-- where every unit is 0; 15 bytes where the capacity is 16, and a program at 2 of 3 bytes.
+pub record LowestFirst : Type 0 where
+  pub zero-unit : barrierRefusal (geometryOf 0 0 0 0) 1 ≡ 1
+  pub misaligned-offset : programRefusal small Rejected (newMedia 15) 2 (0x00 ∷ 0x00 ∷ 0x00 ∷ []) ≡ 4
