@@ -11,7 +11,7 @@ use Prim.Native.Nat.{ℕ, suc, _+_, _-_, _≤_, min}
 use native.Mathlib.Nat.{suc-ne-zero, suc-inj}
 use native.Mathlib.Numerals.{add-one}
 use native.Mathlib.Omega.{arith}
-use lib.Dec.{eqb, ltb}
+use lib.Dec.{eqb}
 use lib.ListN.{length, take, drop, length-take, length-drop, length-map}
 use lib.Seq.{sets, sets-eq, length-take-le}
 use Rattle.basics.specs.Tests.{flag}
@@ -21,9 +21,9 @@ use Rattle.session.specs.Armed.{armedOn, isArmed}
 use Rattle.records.specs.declared.Facts.{Facts}
 use Rattle.records.specs.Records.{any, begin, end, RecordMark, Asked, nextPlace, recordAt, recordsTo, judged, entryBy, ledgerBy}
 use Rattle.ledger.specs.Ledger.{Row, rowsFrom, marksFrom, Entered, enteredOf, entered}
-use Rattle.records.specs.Columns.{lastPlace, lastBarrier, higher, armedIn, entryIn, entryAmong, entryAt}
+use Rattle.records.specs.Columns.{lastPlace, lastBarrier, higher, armedIn, followedAt, entryIn, entryAmong, entryAt}
 use Rattle.ledger.specs.Scans.{begins, nextOf, Filled, filled, enter, fillFrom, entriesFrom}
-use Rattle.records.proofs.Places.{followed}
+use Rattle.records.proofs.Places.{follows}
 use Rattle.ledger.proofs.Rows.{rows-part, rows-length, rows-changed, rows-written, rows-ordered, rows-armed}
 use Rattle.records.proofs.Clips.{Clipped, clipped}
 
@@ -62,8 +62,8 @@ module _ (a : Armed) (o : Bool) (ks cs xs : List ℕ) (e : length cs ≡ length 
       rw z
       (same-judged id (ap (any (q .changed)) p ∙ rows-changed start pk pc px lc lx)
       (ap (any (q .withheld)) p ∙ rows-armed a o start pk pc px lc lx ∙ ap (λ (n : ℕ). o && armedIn a start (start + n)) lk)
-      (followed (q .writes) (q .orders) rows start k
-      ∙ ap₂ (λ (n m : ℕ). ltb (start + n) m) (ap (lastPlace (q .writes)) p ∙ rows-written start pk pc px lc lx) (rows-ordered 0 ks cs xs e g)))
+      (follows (q .writes) (q .orders) rows start k
+      ∙ ap₂ (λ (n m : ℕ). followedAt start n m) (ap (lastPlace (q .writes)) p ∙ rows-written start pk pc px lc lx) (rows-ordered 0 ks cs xs e g)))
 
   pub entry-is : (id from to : ℕ)
       → entryBy (asking a o) (record { id = id; own = take (to - from) (drop from (rowsFrom 0 ks cs xs)); later = drop (to - from) (drop from (rowsFrom 0 ks cs xs)) })

@@ -2,6 +2,7 @@
 --     ledger-few         there are at most as many entries as marks, so that columns of 512 have room for every session's ledger
 --     torn-possibly      a torn record is possibly durable
 --     unarmed-whole      with nothing armed no record is torn
+--     unwritten          a record without a program or erase is not acknowledged; `lone-barrier`: nor is a barrier alone
 -- Assumes nothing.
 use mathlib.Core.Path.{_≡_, refl, ap, _∙_}
 use mathlib.Core.Bool.{Bool, true, false, _&&_, _||_}
@@ -10,7 +11,7 @@ use Prim.Native.Nat.{ℕ, zero, suc, _≤_, zero-le, suc-le-suc}
 use native.Mathlib.Nat.{le-trans}
 use native.Mathlib.Omega.{arith}
 use lib.ListN.{length, take, length-map}
-use Rattle.model.specs.Ledger.{Entry}
+use Rattle.model.specs.Ledger.{Entry, isAcknowledged}
 use Rattle.model.specs.declared.Durability.the-variants.{PossiblyDurable}
 use Rattle.session.specs.declared.Told.{Told}
 use Rattle.session.specs.declared.Armed.{Armed}
@@ -18,8 +19,8 @@ use Rattle.session.specs.declared.Armed.the-variants.{Nothing}
 use Rattle.session.specs.declared.Counters.{Counters}
 use Rattle.session.specs.Log.{Log, Marks}
 use Rattle.session.specs.Armed.{armedOn, isArmed}
-use Rattle.records.specs.Records.{any, Label, begin, end, RecordMark, Kept, nextPlace, recordAt, recordsTo, judged, entryBy, ledgerBy}
-use Rattle.ledger.specs.Ledger.{Row, rowsOf, marksFrom, marksListed, outstanding, asked, ledgerOfRun}
+use Rattle.records.specs.Records.{any, Label, begin, end, RecordMark, Asked, Kept, nextPlace, recordAt, recordsTo, judged, entryBy, ledgerBy}
+use Rattle.ledger.specs.Ledger.{Row, rowsFrom, rowsOf, marksFrom, marksListed, outstanding, asked, ledgerOfRun}
 
 -- ---- how many
 
@@ -94,3 +95,22 @@ module _ (t : Told) (c : Counters) (media copy : List ℕ) (e : t .armed ≡ Not
   pub unarmed-whole : (l : Log) (m : Marks) → any (λ (x : Entry). x .mark) (ledgerOfRun t c media copy l m) ≡ false
   unfolding ledgerOfRun ledgerBy
   unarmed-whole l m = entries-whole (recordsTo (length (rowsOf c l)) (rowsOf c l) (marksListed c m))
+
+-- ---- without a program or erase
+
+not-acknowledged : (id : ℕ) (a b : Bool) → isAcknowledged (judged id a b false) ≡ false
+unfolding judged
+not-acknowledged id false b = refl
+not-acknowledged id true true = refl
+not-acknowledged id true false = refl
+
+pub unwritten : {A : Type 0} (q : Asked A) (r : Kept A) → any (q .writes) (r .own) ≡ false → isAcknowledged (entryBy q r) ≡ false
+unfolding entryBy
+unwritten q r n = rw n (not-acknowledged (r .id) (any (q .changed) (r .own)) (any (q .withheld) (r .own)))
+
+-- a barrier that answered 0, with a cell said to be changed, and a mark before it
+pub lone-barrier : (t : Told) (c : Counters) (media copy : List ℕ) → t .armed ≡ Nothing
+    → ledgerBy (asked t c media copy) (rowsFrom 0 (2 ∷ []) (1 ∷ []) (1 ∷ [])) (marksFrom (1 ∷ []) (7 ∷ []) (0 ∷ []))
+    ≡ record { id = 7; state = PossiblyDurable; mark = false } ∷ []
+unfolding rowsFrom marksFrom ledgerBy recordsTo recordAt entryBy judged any
+lone-barrier t c media copy e = rw e

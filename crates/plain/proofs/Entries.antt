@@ -8,7 +8,7 @@ use mathlib.Core.List.{List, [], _∷_, _++_, map}
 use Prim.Native.Nat.{ℕ}
 use lib.ListN.{length}
 use Rattle.model.specs.Ledger.{isAcknowledged, isTorn, ids}
-use Rattle.records.specs.Records.{Label, begin, end, RecordMark, Asked, Kept, any, nextPlace, recordAt, recordsTo, behind, judged, entryBy, ledgerBy}
+use Rattle.records.specs.Records.{Label, begin, end, RecordMark, Asked, Kept, any, nextPlace, recordAt, recordsTo, judged, followed, entryBy, ledgerBy}
 use Rattle.plain.specs.Plain.{Op, Run}
 use Rattle.plain.specs.Ledger.{asked, records, ledger, idOf, begun}
 use Rattle.plain.proofs.Histories.{TornOrAcknowledged}
@@ -25,7 +25,7 @@ judged-id id true false false = refl
 pub entry-id : {A : Type 0} (q : Asked A) (r : Kept A) → entryBy q r .id ≡ r .id
 unfolding entryBy
 entry-id q r =
-    judged-id (r .id) (any (q .changed) (r .own)) (any (q .withheld) (r .own)) (any (q .orders) (behind (q .writes) (r .own) ++ r .later))
+    judged-id (r .id) (any (q .changed) (r .own)) (any (q .withheld) (r .own)) (followed q r)
 
 records-ids : {A : Type 0} (q : Asked A) (last : ℕ) (ops : List A) (ms : List RecordMark) → ids (map (entryBy q) (recordsTo last ops ms)) ≡ begun ms
 unfolding recordsTo recordAt begun ids
@@ -54,7 +54,7 @@ entries-either : (q : Asked Op) (rs : List (Kept Op)) → TornOrAcknowledged (ma
 unfolding entryBy
 entries-either q [] = tt
 entries-either q (r ∷ rs) = (
-  judged-either (r .id) (any (q .changed) (r .own)) (any (q .withheld) (r .own)) (any (q .orders) (behind (q .writes) (r .own) ++ r .later)),
+  judged-either (r .id) (any (q .changed) (r .own)) (any (q .withheld) (r .own)) (followed q r),
   entries-either q rs,
 )
 

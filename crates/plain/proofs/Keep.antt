@@ -13,7 +13,7 @@ use borrow.Author.Tests.{not-true}
 use Rattle.device.specs.Media.{anyPair}
 use Rattle.device.proofs.Pairs.{false-left, false-right}
 use Rattle.model.specs.Ledger.{isAcknowledged}
-use Rattle.records.specs.Records.{Kept, any, behind, judged, entryBy}
+use Rattle.records.specs.Records.{Kept, any, behind, judged, followed, entryBy}
 use Rattle.plain.specs.Plain.{Op}
 use Rattle.plain.specs.Ledger.{isWrite, orders, changed, withheld, asked, inOrder}
 use Rattle.plain.proofs.Flags.{first-true, second-true, either-true, only-first, any-append}
@@ -25,10 +25,10 @@ take-append n [] ys = rw (take-nil, sub-zero)
 take-append zero (x ∷ xs) ys = rw zero-sub
 take-append {A} (suc n) (x ∷ xs) ys = rw suc-sub-suc (ap {B = List A} (λ (l : List A). x ∷ l) (take-append n xs ys))
 
--- ---- a barrier that answered 0 behind the last program or erase of the first r operations
+-- ---- a barrier that answered 0 behind the last program or erase of the first r operations, or among all where these have none
 
-abbrev followed : ℕ → List Op → Bool
-followed r os = any orders (behind isWrite (take r os) ++ drop r os)
+abbrev settled : ℕ → List Op → Bool
+settled r os = any orders (behind isWrite (take r os) ++ drop r os)
 
 behind-none : (os : List Op) → any isWrite os ≡ false → behind isWrite os ≡ os
 unfolding behind
@@ -40,22 +40,22 @@ unfolding orders
 orders-barrier o h = not-true (isWrite o) (first-true (not (isWrite o)) (eqb (o .answer) 0) h)
 
 -- without the first operation: it may have been the barrier, and then nothing behind it writes
-followed-without : (r : ℕ) (o : Op) (os : List Op) → followed (suc r) (o ∷ os) ≡ true
-    → (followed r os ≡ true) ⊎ ((orders o ≡ true) × (any isWrite (take r os) ≡ false))
+settled-without : (r : ℕ) (o : Op) (os : List Op) → settled (suc r) (o ∷ os) ≡ true
+    → (settled r os ≡ true) ⊎ ((orders o ≡ true) × (any isWrite (take r os) ≡ false))
 unfolding behind any
-followed-without r o os h = go (any isWrite (o ∷ take r os)) refl h
+settled-without r o os h = go (any isWrite (o ∷ take r os)) refl h
   where
     go : (b : Bool) → any isWrite (o ∷ take r os) ≡ b → any orders (cond b (behind isWrite (take r os)) (o ∷ take r os) ++ drop r os) ≡ true
-        → (followed r os ≡ true) ⊎ ((orders o ≡ true) × (any isWrite (take r os) ≡ false))
+        → (settled r os ≡ true) ⊎ ((orders o ≡ true) × (any isWrite (take r os) ≡ false))
     go true e h = inl h
     go false e h =
         let n : any isWrite (take r os) ≡ false = false-right (isWrite o) (any isWrite (take r os)) e in
         ⊎-elim (λ (a : orders o ≡ true). inr (a, n)) (λ (a : any orders (take r os ++ drop r os) ≡ true). inl (rw (behind-none (take r os) n) a))
         (either-true (orders o) (any orders (take r os ++ drop r os)) h)
 
-followed-with : (r : ℕ) (o : Op) (os : List Op) → followed r os ≡ true → followed (suc r) (o ∷ os) ≡ true
+settled-with : (r : ℕ) (o : Op) (os : List Op) → settled r os ≡ true → settled (suc r) (o ∷ os) ≡ true
 unfolding behind any
-followed-with r o os h = go (any isWrite (o ∷ take r os)) refl
+settled-with r o os h = go (any isWrite (o ∷ take r os)) refl
   where
     go : (b : Bool) → any isWrite (o ∷ take r os) ≡ b → any orders (cond b (behind isWrite (take r os)) (o ∷ take r os) ++ drop r os) ≡ true
     go true e = h
@@ -64,13 +64,13 @@ followed-with r o os h = go (any isWrite (o ∷ take r os)) refl
         let k : any orders (take r os ++ drop r os) ≡ true = rw (behind-none (take r os) n) at h in
         rw k (or-true (orders o))
 
-followed-first : (r : ℕ) (o : Op) (os : List Op) → orders o ≡ true → any isWrite (take r os) ≡ false → followed (suc r) (o ∷ os) ≡ true
+settled-first : (r : ℕ) (o : Op) (os : List Op) → orders o ≡ true → any isWrite (take r os) ≡ false → settled (suc r) (o ∷ os) ≡ true
 unfolding behind any
-followed-first r o os a n = rw (orders-barrier o a, n, a)
+settled-first r o os a n = rw (orders-barrier o a, n, a)
 
-followed-nil : (r : ℕ) → followed r [] ≡ false
+settled-nil : (r : ℕ) → settled r [] ≡ false
 unfolding behind any
-followed-nil r = rw (take-nil, drop-nil)
+settled-nil r = rw (take-nil, drop-nil)
 
 -- in order, and the first is a barrier: nothing behind it writes
 in-order-behind : (o : Op) (os : List Op) → inOrder (o ∷ os) ≡ true → isWrite o ≡ false → any isWrite os ≡ false
@@ -83,20 +83,20 @@ module _ (x b : Op) (rest : List Op) (kinds : x .kind ≡ b .kind) (whole : Whol
   unfolding orders
   orders-uncut a = rw (← kinds, orders-barrier x a, whole .answers-0)
 
-  -- the record goes on to be followed, and writes nothing more
-  still : (r : ℕ) (front : List Op) → inOrder (take r (front ++ b ∷ rest)) ≡ true → followed r (front ++ x ∷ []) ≡ true
-      → (followed r (front ++ b ∷ rest) ≡ true) × (any isWrite (take (r - length front) (b ∷ rest)) ≡ false)
+  -- the record goes on to be settled, and writes nothing more
+  still : (r : ℕ) (front : List Op) → inOrder (take r (front ++ b ∷ rest)) ≡ true → settled r (front ++ x ∷ []) ≡ true
+      → (settled r (front ++ b ∷ rest) ≡ true) × (any isWrite (take (r - length front) (b ∷ rest)) ≡ false)
   unfolding any behind inOrder
   still zero [] o h =
       ⊎-elim (λ (a : orders x ≡ true). (rw (orders-uncut a), refl)) (λ (a : false ≡ true). absurd (false≢true a)) (either-true (orders x) false h)
   still (suc r) [] o h =
-      ⊎-elim (λ (f : followed r [] ≡ true). absurd (false≢true (sym (followed-nil r) ∙ f)))
+      ⊎-elim (λ (f : settled r [] ≡ true). absurd (false≢true (sym (settled-nil r) ∙ f)))
       (λ (z : (orders x ≡ true) × (any isWrite (take r []) ≡ false)).
       let a : orders b ≡ true = orders-uncut (z .0) in
       let n : isWrite b ≡ false = orders-barrier b a in
       let q : any isWrite (take r rest) ≡ false = in-order-behind b (take r rest) o n in
-      (followed-first r b rest a q, rw (sub-zero (suc r), n) q))
-      (followed-without r x [] h)
+      (settled-first r b rest a q, rw (sub-zero (suc r), n) q))
+      (settled-without r x [] h)
   still zero (p ∷ front) o h =
       ⊎-elim (λ (a : orders p ≡ true). (rw a, rw zero-sub))
       (λ (a : any orders (front ++ x ∷ []) ≡ true). (rw (still zero front refl a .0) (or-true (orders p)), rw zero-sub))
@@ -104,15 +104,15 @@ module _ (x b : Op) (rest : List Op) (kinds : x .kind ≡ b .kind) (whole : Whol
   still (suc r) (p ∷ front) o h =
       let later : List Op = take r (front ++ b ∷ rest) in
       ⊎-elim
-      (λ (f : followed r (front ++ x ∷ []) ≡ true).
+      (λ (f : settled r (front ++ x ∷ []) ≡ true).
       let ih = still r front (second-true (isWrite p || not (any isWrite later)) (inOrder later) o) f in
-      (followed-with r p (front ++ b ∷ rest) (ih .0), rw suc-sub-suc (ih .1)))
+      (settled-with r p (front ++ b ∷ rest) (ih .0), rw suc-sub-suc (ih .1)))
       (λ (z : (orders p ≡ true) × (any isWrite (take r (front ++ x ∷ [])) ≡ false)).
       let q : any isWrite later ≡ false = in-order-behind p later o (orders-barrier p (z .0)) in (
-        followed-first r p (front ++ b ∷ rest) (z .0) q,
+        settled-first r p (front ++ b ∷ rest) (z .0) q,
         rw suc-sub-suc (false-right (any isWrite (take r front)) (any isWrite (take (r - length front) (b ∷ rest))) (rw (take-append, any-append) at q)),
       ))
-      (followed-without r p (front ++ x ∷ []) h)
+      (settled-without r p (front ++ x ∷ []) h)
 
 -- ---- barriers change nothing and withhold nothing
 
@@ -165,12 +165,16 @@ pub keep-record : (mc md : List ℕ) (id r : ℕ) (front : List Op) (x b : Op) (
 unfolding entryBy
 keep-record mc md id r front x b rest wf wb k bx bb o h =
     let q : ℕ = r - length front in
-    let z = is-acknowledged id (any changed (take r (front ++ x ∷ []))) (any (withheld mc) (take r (front ++ x ∷ []))) (followed r (front ++ x ∷ [])) h in
-    let s = still x b rest k wb r front o (z .2) in
+    let z = is-acknowledged id (any changed (take r (front ++ x ∷ []))) (any (withheld mc) (take r (front ++ x ∷ []))) (followed (asked mc) (recordOf id r (front ++ x ∷ []))) h in
+    let s = still x b rest k wb r front o (second-true (any isWrite (take r (front ++ x ∷ []))) (settled r (front ++ x ∷ [])) (z .2)) in
     let n : any isWrite (take q (b ∷ rest)) ≡ false = s .1 in
+    let silent : any isWrite (take q (x ∷ [])) ≡ false = quiet-cut q x b rest k n in
+    let w : (any isWrite (take r front) || any isWrite (take q (x ∷ []))) ≡ true =
+    rw (take-append, any-append) at (first-true (any isWrite (take r (front ++ x ∷ []))) (settled r (front ++ x ∷ [])) (z .2)) in
+    let writes : any isWrite (take r (front ++ b ∷ rest)) ≡ true = rw (take-append, any-append, only-first (any isWrite (take r front)) (any isWrite (take q (x ∷ []))) w silent) in
     let c : (any changed (take r front) || any changed (take q (x ∷ []))) ≡ true = rw (take-append, any-append) at (z .0) in
-    let quiet : any changed (take q (x ∷ [])) ≡ false = none-changed (take q (x ∷ [])) (all-take Bare q (x ∷ []) (bx, tt)) (quiet-cut q x b rest k n) in
-    acknowledged-if id (any changed (take r (front ++ b ∷ rest))) (any (withheld md) (take r (front ++ b ∷ rest))) (followed r (front ++ b ∷ rest))
+    let quiet : any changed (take q (x ∷ [])) ≡ false = none-changed (take q (x ∷ [])) (all-take Bare q (x ∷ []) (bx, tt)) silent in
+    acknowledged-if id (any changed (take r (front ++ b ∷ rest))) (any (withheld md) (take r (front ++ b ∷ rest))) (followed (asked md) (recordOf id r (front ++ b ∷ rest)))
     (rw (take-append, any-append, only-first (any changed (take r front)) (any changed (take q (x ∷ []))) c quiet))
     (rw (take-append, any-append, none-withheld md (take r front) (all-take Whole r front wf)) (none-held md (take q (b ∷ rest)) (all-take Bare q (b ∷ rest) bb) n))
-    (s .0)
+    (rw writes (s .0))

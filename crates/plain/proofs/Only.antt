@@ -2,7 +2,7 @@
 -- cut operation nothing is committed. Assumes nothing.
 use mathlib.Core.Path.{_≡_, refl, sym, _∙_}
 use mathlib.Core.Logic.{⊎-elim}
-use mathlib.Core.Bool.{Bool, true, false, false≢true}
+use mathlib.Core.Bool.{Bool, true, false, _&&_, false≢true}
 use mathlib.Core.List.{List, [], _∷_, _++_, map}
 use Prim.Native.Nat.{ℕ, zero, suc, _+_, _-_, _≤_, _<_}
 use native.Mathlib.Nat.{le-refl}
@@ -96,7 +96,7 @@ module _ (media : List ℕ) (ops : List Op) (last : ℕ) where
         go (begin id) ih =
             let own : List Op = take (nextPlace last ms - m .place) (drop (m .place) ops) in
             let later : List Op = drop (nextPlace last ms - m .place) (drop (m .place) ops) in
-            torn-alone id (any changed own) (any (withheld media) own) (any orders (behind isWrite own ++ later)) (entries ms) ih
+            torn-alone id (any changed own) (any (withheld media) own) (any isWrite own && any orders (behind isWrite own ++ later)) (entries ms) ih
             (λ z. none-past (nextPlace last ms) ms (omega (arith, goes-past (m .place) (nextPlace last ms) z)) (from-next ms (r .1)))
 
 -- ---- uncut, and cut

@@ -3,11 +3,11 @@
 --     last-yes, last-no               one element more at the end
 --     behind-drop                     what stands behind the last one
 --     any-drop                        some element from n on passes exactly if n is below it
---     followed                        both at once: what the state's rule asks, as one comparison of two places
+--     follows                         all at once: what the state's rule asks, by two places
 --     any-more, any-map, last-map     the tests over a column
 -- Assumes nothing.
-use mathlib.Core.Path.{_≡_, refl, sym, ap, _∙_}
-use mathlib.Core.Bool.{Bool, true, false, _||_, cond, or-false, or-true, or-assoc}
+use mathlib.Core.Path.{_≡_, refl, sym, ap, ap₂, _∙_}
+use mathlib.Core.Bool.{Bool, true, false, _&&_, _||_, cond, or-false, or-true, or-assoc}
 use mathlib.Core.List.{List, [], _∷_, _++_, map}
 use Prim.Native.Nat.{ℕ, zero, suc, _+_, _≤_, zero-le, suc-le-suc}
 use lib.Dec.{ltb, leb·suc-zero, leb·suc-suc}
@@ -15,7 +15,7 @@ use lib.ListN.{length, take, drop, take-append-drop}
 use lib.Seq.{drop-append-le, drop-drop}
 use borrow.Author.Tests.{lt-ltb}
 use Rattle.records.specs.Records.{any, behind}
-use Rattle.records.specs.Columns.{lastPlace}
+use Rattle.records.specs.Columns.{lastPlace, followedAt}
 
 right-false : (a b : Bool) → (a || b) ≡ false → b ≡ false
 right-false true b e = let z : true ≡ false = e in cc
@@ -101,19 +101,25 @@ module _ {A : Type 0} (test : A → Bool) where
       later-step (any test (x ∷ xs)) (any test (drop n xs)) n (lastPlace test xs) (any-drop n xs)
       (λ e. last-none xs (right-false (test x) (any test xs) (sym (any-cons x xs) ∙ e)))
 
--- "a barrier that answered 0 follows its last program or erase": k operations from `from` on are the record's own
-pub followed : {A : Type 0} (writes orders : A → Bool) (ops : List A) (from k : ℕ)
-    → any orders (behind writes (take k (drop from ops)) ++ drop k (drop from ops))
-    ≡ ltb (from + lastPlace writes (take k (drop from ops))) (lastPlace orders ops)
-followed {A} writes orders ops from k =
-    let own = take k (drop from ops) in
-    let p = lastPlace writes own in
-    ap (λ (l : List A). any orders (l ++ drop k (drop from ops))) (behind-drop writes own)
-    ∙ ap (any orders)
-    (sym (drop-append-le p own (drop k (drop from ops)) (last-le writes own))
-    ∙ ap (drop p) (take-append-drop k (drop from ops))
-    ∙ drop-drop p from ops)
-    ∙ any-drop orders (from + p) ops
+-- k operations from `from` on are the record's own
+module _ {A : Type 0} (writes orders : A → Bool) (ops : List A) (from k : ℕ) where
+  -- a barrier that answered 0 behind the last program or erase, or behind the record's mark where there is none
+  stands-behind : any orders (behind writes (take k (drop from ops)) ++ drop k (drop from ops))
+      ≡ ltb (from + lastPlace writes (take k (drop from ops))) (lastPlace orders ops)
+  stands-behind =
+      let own = take k (drop from ops) in
+      let p = lastPlace writes own in
+      ap (λ (l : List A). any orders (l ++ drop k (drop from ops))) (behind-drop writes own)
+      ∙ ap (any orders)
+      (sym (drop-append-le p own (drop k (drop from ops)) (last-le writes own))
+      ∙ ap (drop p) (take-append-drop k (drop from ops))
+      ∙ drop-drop p from ops)
+      ∙ any-drop orders (from + p) ops
+
+  -- "a barrier that answered 0 follows its last program or erase"
+  pub follows : (any writes (take k (drop from ops)) && any orders (behind writes (take k (drop from ops)) ++ drop k (drop from ops)))
+      ≡ followedAt from (lastPlace writes (take k (drop from ops))) (lastPlace orders ops)
+  follows = ap₂ (λ (a b : Bool). a && b) (any-drop writes 0 (take k (drop from ops))) stands-behind
 
 -- ---- over a column
 

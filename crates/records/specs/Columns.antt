@@ -60,11 +60,16 @@ armedIn (At j) start stop = leb start (j .op) && ltb (j .op) stop
 abbrev pub scannedOf : (kinds changed : List ℕ) → Scanned
 scannedOf ks cs = record { changed = any isOne cs; written = lastPlace isWrite ks }
 
+-- whether the last barrier that answered 0 stands behind a record's last program or erase: `written` is one past that one, counted from
+-- the record's start, 0 where there is none, and `barrier` one past the barrier
+abbrev pub followedAt : (start written barrier : ℕ) → Bool
+followedAt start written barrier = ltb 0 written && ltb (start + written) barrier
+
 -- a record with the operations from start to stop
 unfoldable pub entryIn : Facts → (kinds changed : List ℕ) → (id start stop : ℕ) → Entry
 entryIn f ks cs id start stop =
     judged id (any isOne (take (stop - start) (drop start cs))) (f .outstanding && armedIn (f .armed) start stop)
-    (ltb (start + lastPlace isWrite (take (stop - start) (drop start ks))) (f .barrier))
+    (followedAt start (lastPlace isWrite (take (stop - start) (drop start ks))) (f .barrier))
 
 -- a record whose mark stands at `from`, the next one at `to`, of n operations
 abbrev pub entryAmong : (n : ℕ) → Facts → (kinds changed : List ℕ) → (id from to : ℕ) → Entry

@@ -1,6 +1,6 @@
 -- Document 01, "session.rs (974)": records, and the state of each, over any list of operations. What a record's rule asks of an
 -- operation is four tests, so that the same rule reads a session's log and the plain run. Definitions only; assumes nothing.
-use mathlib.Core.Bool.{Bool, true, false, _||_, cond}
+use mathlib.Core.Bool.{Bool, true, false, _&&_, _||_, cond}
 use mathlib.Core.List.{List, [], _∷_, _++_, map}
 use Prim.Native.Nat.{ℕ, _-_}
 use lib.ListN.{length, take, drop}
@@ -69,9 +69,13 @@ judged id true false true = record { id = id; state = Acknowledged; mark = false
 judged id true false false = record { id = id; state = PossiblyDurable; mark = false }
 
 module _ {A : Type 0} where
+  -- ".. a barrier that answered 0 follows its last program or erase": there is a program or erase, and such a barrier behind the last,
+  -- in the record or after it
+  abbrev pub followed : Asked A → Kept A → Bool
+  followed q r = any (q .writes) (r .own) && any (q .orders) (behind (q .writes) (r .own) ++ r .later)
+
   unfoldable pub entryBy : Asked A → Kept A → Entry
-  entryBy q r =
-      judged (r .id) (any (q .changed) (r .own)) (any (q .withheld) (r .own)) (any (q .orders) (behind (q .writes) (r .own) ++ r .later))
+  entryBy q r = judged (r .id) (any (q .changed) (r .own)) (any (q .withheld) (r .own)) (followed q r)
 
   -- the ledger: the records in order, each with its state and torn
   unfoldable pub ledgerBy : Asked A → (ops : List A) → List RecordMark → List Entry

@@ -26,7 +26,7 @@ struct Span {
     stop: usize,
 }
 
-// What a record's own operations say: whether a cell changed, and one past the last program or erase.
+// What a record's own operations say: whether a cell changed, and one past the last program or erase, 0 where there is none.
 struct Scanned {
     changed: bool,
     written: usize,
@@ -149,7 +149,8 @@ pub fn entry_at(facts: Facts, kinds: &[u8], changed: &[u8], from: usize, to: usi
     let within = armed_in(armed, start, stop);
     let withheld = facts.outstanding & within;
     let own = scan(&kinds[start..stop], &changed[start..stop]);
-    let followed = start + own.written < facts.barrier;
+    // A record without a program or erase has no last one for a barrier to follow.
+    let followed = (own.written > 0) & (start + own.written < facts.barrier);
     let state = durability_of(own.changed, withheld, followed);
     Codes {
         state: code_of(state),

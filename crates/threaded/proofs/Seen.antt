@@ -3,7 +3,7 @@
 --     ledger-seen      the ledger of a list is that of what is seen of it
 -- Assumes nothing.
 use mathlib.Core.Path.{_≡_, refl, sym, ap, ap₂, _∙_}
-use mathlib.Core.Bool.{Bool, true, false, cond, _||_}
+use mathlib.Core.Bool.{Bool, true, false, cond, _&&_, _||_}
 use mathlib.Core.List.{List, [], _∷_, _++_, map, map-append}
 use Prim.Native.Nat.{ℕ, zero, suc, _-_}
 use lib.ListN.{length, take, drop, length-map}
@@ -53,7 +53,7 @@ module _ {A B : Type 0} (f : A → B) where
       ap (λ (l : List B). any (q .orders) (l ++ map f later)) (behind-map (q .writes) own)
       ∙ ap (any (q .orders)) (sym (map-append f (behind (λ x. q .writes (f x)) own) later))
       ∙ any-map (q .orders) (behind (λ x. q .writes (f x)) own ++ later) in
-      λ i. judged id (any-map (q .changed) own i) (any-map (q .withheld) own i) (b i)
+      λ i. judged id (any-map (q .changed) own i) (any-map (q .withheld) own i) (any-map (q .writes) own i && b i)
 
   records-map : (q : Asked B) (last : ℕ) (xs : List A) (ms : List RecordMark)
       → map (entryBy q) (recordsTo last (map f xs) ms) ≡ map (entryBy (through q)) (recordsTo last xs ms)

@@ -48,9 +48,11 @@ flag-of-requires c κs = search needs
 
 returns : tie.Need-returns
 returns c =
-    let s = c .before .before .before .before .before .before .before .before .before .before .before .before .before .before .before in
-    entry-codes (s .args .facts) (s .args .kinds .now) (s .args .changed .now) (s .args .from) (s .args .to) _ (c .before .before .before .before .before .before .before .before .before .before .before .before .lower .ensures .0) _ (c .before .before .before .before .before .before .before .before .before .before .before .span-of .ensures .0) _ (c .before .before .before .before .before .before .before .before .before .before .armed-in .ensures) _
-    (c .before .before .before .before .before .before .scan .ensures .0) _ (c .before .before .before .durability-of .ensures) _ _ (c .before .before .code-of .ensures) (c .flag-of .ensures)
+    let scanned = c .before .before .before .before .before .before .before in
+    let armed = scanned .before .before .before .before in
+    let s = armed .before .before .before .before .before in
+    entry-codes (s .args .facts) (s .args .kinds .now) (s .args .changed .now) (s .args .from) (s .args .to) _ (armed .before .before .lower .ensures .0) _ (armed .before .span-of .ensures .0) _ (armed .armed-in .ensures) _
+    (scanned .scan .ensures .0) _ (c .before .before .before .durability-of .ensures) _ _ (c .before .before .code-of .ensures) (c .flag-of .ensures)
 
 pub entry-at-spec : {M : Type 1} → statement M
 entry-at-spec =
