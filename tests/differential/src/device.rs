@@ -138,20 +138,19 @@ fn refusal_of(answer: Result<(), FaultError>) -> u32 {
     }
 }
 
-/// The Rust's device with these units, rule and media, or the number that refuses every call on it. In the Rust a device
-/// owns media of its capacity and only `new` makes a geometry; here both are handed in at each call, and document 01 has
-/// 7 for the media before 1 to 3 for the geometry.
-fn rust_device([capacity, erase, program, read]: [u32; 4], rule: u32, media: &[u8]) -> Result<Device, u32> {
+/// The Rust's device with these units, rule and media. There is none where `new` refuses the units, or where the media are
+/// not of capacity length: in the Rust a device owns its media, here units and media are handed in at each call.
+fn rust_device([capacity, erase, program, read]: [u32; 4], rule: u32, media: &[u8]) -> Option<Device> {
     if media.len() != capacity as usize {
-        return Err(7);
+        return None;
     }
-    let geometry = Geometry::new(capacity, erase, program, read).map_err(number_of)?;
+    let geometry = Geometry::new(capacity, erase, program, read).ok()?;
     let bits = if rule == 0 { OneWayBits::Absorbed } else { OneWayBits::Rejected };
     let mut device = Device::with_bit_rule(geometry, bits);
     inside::apply_program(&mut device, 0, media);
     // An erased cell holds whatever is programmed.
     assert_eq!(device.image(), media);
-    Ok(device)
+    Some(device)
 }
 
 /// Bytes a step smaller: fewer, or one of them less.
@@ -360,6 +359,175 @@ impl Input for Calls {
     }
 }
 
+// ---- document 01's numbers for a call of the device
+
+/// What is wrong with a call, in document 01's order: these are no session calls, and "elsewhere the lowest number comes first,
+/// save that 6 for a buffer comes before 4 and 5".
+#[derive(Clone, Copy, PartialEq, Eq, PartialOrd, Ord, Debug)]
+enum Cause {
+    Zero,
+    NoPower,
+    NotNested,
+    Buffer,
+    Offset,
+    Length,
+    End,
+    Media,
+    SetBit,
+}
+
+impl Cause {
+    const ALL: [Self; 9] = [
+        Self::Zero,
+        Self::NoPower,
+        Self::NotNested,
+        Self::Buffer,
+        Self::Offset,
+        Self::Length,
+        Self::End,
+        Self::Media,
+        Self::SetBit,
+    ];
+
+    fn number(self) -> u32 {
+        match self {
+            Self::Zero => 1,
+            Self::NoPower => 2,
+            Self::NotNested => 3,
+            Self::Offset => 4,
+            Self::Length => 5,
+            Self::Buffer | Self::End => 6,
+            Self::Media => 7,
+            Self::SetBit => 20,
+        }
+    }
+}
+
+/// The kind of a call: 0 a read, 1 a program, 2 an erase, 3 a barrier.
+const KINDS_OF_CALL: [&str; 4] = ["read", "program", "erase", "barrier"];
+
+/// A call as document 01 tests it: how long its span is, which is its buffer's length for a read or a program, and the bytes that
+/// it programs.
+#[derive(Clone, Copy)]
+struct Tested<'a> {
+    kind: usize,
+    offset: u32,
+    len: u64,
+    src: &'a [u8],
+}
+
+impl Call {
+    fn tested(&self) -> Tested<'_> {
+        match self {
+            Self::Read { offset, len } => Tested { kind: 0, offset: *offset, len: (*len).into(), src: &[] },
+            Self::Program { offset, src } => Tested { kind: 1, offset: *offset, len: src.len() as u64, src },
+            Self::Erase { offset, len } => Tested { kind: 2, offset: *offset, len: (*len).into(), src: &[] },
+            Self::Barrier => Tested { kind: 3, offset: 0, len: 0, src: &[] },
+        }
+    }
+}
+
+/// Of 0 only 0 is a multiple.
+fn is_multiple(n: u64, of: u32) -> bool {
+    if of == 0 { n == 0 } else { n.is_multiple_of(of.into()) }
+}
+
+/// Everything that is wrong with a call, each by itself and whatever else is wrong, in document 01's order.
+fn causes(units: [u32; 4], rule: u32, media: &[u8], call: Tested) -> Vec<Cause> {
+    let [capacity, erase, program, read] = units;
+    let Tested { kind, offset, len, src } = call;
+    let end = u64::from(offset) + len;
+    // A barrier has no span.
+    let (span, unit) = (kind != 3, [read, program, erase, 1][kind]);
+    let is_wrong = |cause| match cause {
+        // "Any of the four zero, 1".
+        Cause::Zero => units.contains(&0),
+        // "A unit that is no power of two, 2", which is one "exactly if just one bit is set".
+        Cause::NoPower => [erase, program, read].iter().any(|unit| unit.count_ones() != 1),
+        // "Capacity no multiple of the erase unit, erase below program, or program below read, 3."
+        Cause::NotNested => !is_multiple(capacity.into(), erase) || erase < program || program < read,
+        // "6 also for a buffer longer than u32."
+        Cause::Buffer => len > u32::MAX.into(),
+        // "A span is checked for offset (4), then length (5), against its call's unit, then for an end that overflows u32 or
+        // passes capacity (6)."
+        Cause::Offset => span && !is_multiple(offset.into(), unit),
+        Cause::Length => span && !is_multiple(len, unit),
+        Cause::End => span && (end > u32::MAX.into() || end > capacity.into()),
+        // "7: media or withheld copy not of capacity length."
+        Cause::Media => media.len() as u64 != capacity.into(),
+        // "Under rule `Rejected`, a byte with a 1 where its cell has 0 refuses the call with 20."
+        Cause::SetBit => {
+            let cells = usize::try_from(end).ok().and_then(|end| media.get(offset as usize..end));
+            kind == 1
+                && rule == 1
+                && cells.is_some_and(|cells| cells.iter().zip(src).any(|(cell, byte)| byte & !cell != 0))
+        }
+    };
+    Cause::ALL.into_iter().filter(|&cause| is_wrong(cause)).collect()
+}
+
+/// Document 01's numbers, and how often each two causes came together in a call of each kind: where two never did, the
+/// comparison has not shown which of them comes first.
+struct Document(RefCell<[[[u64; 9]; 9]; 4]>);
+
+impl Document {
+    fn new() -> Self {
+        Self(RefCell::new([[[0; 9]; 9]; 4]))
+    }
+
+    /// The number of the call's first cause, or 0.
+    fn number(&self, units: [u32; 4], rule: u32, media: &[u8], call: Tested) -> u32 {
+        let causes = causes(units, rule, media, call);
+        for (place, &first) in causes.iter().enumerate() {
+            for &second in &causes[place + 1..] {
+                self.0.borrow_mut()[call.kind][first as usize][second as usize] += 1;
+            }
+        }
+        let number = causes.first().map_or(0, |cause| cause.number());
+        // The Rust's `new` has 1 to 3 as well.
+        let [capacity, erase, program, read] = units;
+        if let Err(error) = Geometry::new(capacity, erase, program, read) {
+            assert_eq!(number_of(error), number, "the Rust's number and document 01's for {units:?}");
+        }
+        number
+    }
+
+    /// Every two causes that can come together did, those of a buffer where there was room for one.
+    fn all_pairs(&self, buffers: bool) -> Result<(), Difference> {
+        let mut pairs = Vec::new();
+        for (kind, counts) in self.0.borrow().iter().enumerate() {
+            for first in Cause::ALL {
+                for second in Cause::ALL.into_iter().filter(|&second| can_come_together(kind, first, second)) {
+                    pairs.push((counts[first as usize][second as usize], KINDS_OF_CALL[kind], first, second));
+                }
+            }
+        }
+        let (with_buffer, mut least): (Vec<_>, Vec<_>) =
+            pairs.into_iter().partition(|pair| [pair.2, pair.3].contains(&Cause::Buffer));
+        least = vec![least.into_iter().min().expect("two causes")];
+        least.extend(with_buffer.into_iter().min().filter(|_| buffers));
+        for (times, kind, first, second) in least {
+            println!("  the rarest two causes in one call: {first:?} and {second:?}, in a {kind}, {times} times");
+            if times == 0 {
+                return Err(Difference(String::from("two causes that can come together never did")));
+            }
+        }
+        Ok(())
+    }
+}
+
+/// Whether two causes, the first of them before the second, can come together in a call of this kind.
+fn can_come_together(kind: usize, first: Cause, second: Cause) -> bool {
+    let of_kind = |cause| match cause {
+        Cause::Zero | Cause::NoPower | Cause::NotNested | Cause::Media => true,
+        Cause::Buffer => kind < 2,
+        Cause::Offset | Cause::Length | Cause::End => kind < 3,
+        Cause::SetBit => kind == 1,
+    };
+    // A buffer that long is past the end of any media.
+    first < second && of_kind(first) && of_kind(second) && (first, second) != (Cause::Buffer, Cause::SetBit)
+}
+
 /// What a call answered, the media after it, and a read's buffer.
 #[derive(PartialEq, Debug)]
 struct Step {
@@ -385,22 +553,24 @@ fn buffer_of(call: &Call) -> Vec<u8> {
     }
 }
 
-fn rust_steps(calls: &Calls) -> Steps {
+/// The Rust's answers, which are document 01's; where the Rust has no such device, document 01's alone, and nothing changes.
+fn rust_steps(calls: &Calls, document: &Document) -> Steps {
     let mut device = rust_device(calls.units, calls.rule, &calls.media);
     let step = |call: &Call| {
         let mut buffer = buffer_of(call);
-        match &mut device {
-            Ok(device) => {
-                let number = refusal_of(match call {
-                    Call::Read { offset, .. } => device.read(*offset, &mut buffer),
-                    Call::Program { offset, src } => device.program(*offset, src),
-                    Call::Erase { offset, len } => device.erase(*offset, *len),
-                    Call::Barrier => device.barrier(),
-                });
-                Step { number, media: device.image().to_vec(), buffer }
-            }
-            Err(number) => Step { number: *number, media: calls.media.clone(), buffer },
-        }
+        let media = device.as_ref().map_or(&calls.media[..], Device::image);
+        let by_document = document.number(calls.units, calls.rule, media, call.tested());
+        let Some(device) = &mut device else {
+            return Step { number: by_document, media: calls.media.clone(), buffer };
+        };
+        let number = refusal_of(match call {
+            Call::Read { offset, .. } => device.read(*offset, &mut buffer),
+            Call::Program { offset, src } => device.program(*offset, src),
+            Call::Erase { offset, len } => device.erase(*offset, *len),
+            Call::Barrier => device.barrier(),
+        });
+        assert_eq!(number, by_document, "the Rust's number and document 01's for {call:?} of {calls:?}");
+        Step { number, media: device.image().to_vec(), buffer }
     };
     Steps(calls.calls.iter().map(step).collect())
 }
@@ -424,19 +594,23 @@ fn our_steps(calls: &Calls) -> Steps {
 // ---- the inputs
 
 fn compare(comparison: &mut Comparison) -> Result<(), Difference> {
+    let document = Document::new();
+    let rust_steps = |calls: &Calls| rust_steps(calls, &document);
     questions(comparison)?;
-    lone_calls(comparison)?;
-    at_limits(comparison)?;
-    refused_units(comparison)?;
-    longer_than_u32(comparison)?;
+    lone_calls(comparison, &rust_steps)?;
+    at_limits(comparison, &rust_steps)?;
+    refused_units(comparison, &rust_steps)?;
+    let buffers = longer_than_u32(comparison, &document)?;
     // An input takes microseconds here.
     for _ in 0..comparison.size / 2 {
         let calls = random_calls(&mut comparison.random);
         comparison.same(&calls, rust_steps, our_steps)?;
+        let wrong = wrong_calls(&mut comparison.random);
+        comparison.same(&wrong, rust_steps, our_steps)?;
         let question = random_question(&mut comparison.random);
         comparison.same(&question, rust_told, our_told)?;
     }
-    Ok(())
+    document.all_pairs(buffers)
 }
 
 /// The kinds of bytes: random; all 0xFF; all 0x00; half and half; all 0xFF but a bit.
@@ -509,7 +683,7 @@ const DEVICES: [[u32; 4]; 7] =
     [[1, 1, 1, 1], [12, 4, 4, 2], [16, 8, 4, 4], [20, 4, 2, 1], [24, 8, 8, 8], [32, 8, 4, 2], [32, 32, 8, 1]];
 
 /// On each small device, under both rules, every call of up to 20 bytes at every offset up to past the end.
-fn lone_calls(comparison: &mut Comparison) -> Result<(), Difference> {
+fn lone_calls(comparison: &mut Comparison, rust_steps: &impl Fn(&Calls) -> Steps) -> Result<(), Difference> {
     for units in DEVICES {
         for place in 0..2 * KINDS * KINDS * (units[0] + 3) * 21 {
             let random = &mut comparison.random;
@@ -529,7 +703,7 @@ fn lone_calls(comparison: &mut Comparison) -> Result<(), Difference> {
 }
 
 /// Spans that end, start or are as long as numbers beside 0, the capacity, 2^31 and 2^32.
-fn at_limits(comparison: &mut Comparison) -> Result<(), Difference> {
+fn at_limits(comparison: &mut Comparison, rust_steps: &impl Fn(&Calls) -> Steps) -> Result<(), Difference> {
     for units in DEVICES {
         let mut marks = Vec::new();
         for mark in [0, units[0], 1 << 31, 0u32.wrapping_sub(units[0])] {
@@ -556,7 +730,7 @@ fn at_limits(comparison: &mut Comparison) -> Result<(), Difference> {
 }
 
 /// Every capacity up to 12 with units below 10, with media of that capacity and a cell more or less.
-fn refused_units(comparison: &mut Comparison) -> Result<(), Difference> {
+fn refused_units(comparison: &mut Comparison, rust_steps: &impl Fn(&Calls) -> Steps) -> Result<(), Difference> {
     for place in 0..13 * 10 * 10 * 10 {
         let units: [u32; 4] = [place / 1000, place / 100 % 10, place / 10 % 10, place % 10];
         for cells in [units[0], units[0] + 1, units[0].saturating_sub(1)] {
@@ -619,6 +793,47 @@ fn random_call(random: &mut Random, [capacity, erase, program, read]: [u32; 4]) 
     }
 }
 
+/// Calls with several things wrong at once, each as often as not: units, the media's length, a span's offset, length and end,
+/// and bits to be set.
+fn wrong_calls(random: &mut Random) -> Calls {
+    let mut units = random.pick(&DEVICES);
+    let calls = (0..1 + random.below(3)).map(|_| wrong_call(random, units)).collect();
+    for _ in 0..random.pick(&[0, 0, 1, 2]) {
+        units[random.below(4) as usize] = random.pick(&[0, 1, 2, 3, 6, 8, 12, 20, 64]);
+    }
+    let capacity = units[0];
+    let cells = random.pick(&[capacity, capacity, 0, capacity.saturating_sub(1), capacity + 1, capacity + 40]);
+    let kind = random.pick(&[0, 2, 2, 3]);
+    Calls { units, rule: random.pick(&[0, 1, 1]), media: bytes(random, kind, cells), calls }
+}
+
+/// The span is fit for these units, or moved, made longer, or both, by a byte, some bytes or a unit, or past the end.
+fn wrong_call(random: &mut Random, [capacity, erase, program, read]: [u32; 4]) -> Call {
+    let kind = random.below(8);
+    let unit = [read, read, program, program, program, erase, erase, 1][kind as usize];
+    let mut offset = random.below(capacity / unit) * unit;
+    let mut len = random.pick(&[0, unit, unit, capacity - offset]);
+    let moves = [1, 1, 3, unit, capacity];
+    if random.below(2) == 0 {
+        offset += random.pick(&moves);
+    }
+    if random.below(2) == 0 {
+        len += random.pick(&moves);
+    }
+    if random.below(16) == 0 {
+        offset = 0u32.wrapping_sub(random.pick(&moves));
+    }
+    match kind {
+        0 | 1 => Call::Read { offset, len },
+        2..5 => {
+            let kind = random.pick(&[0, 1, 1, 3]);
+            Call::Program { offset, src: bytes(random, kind, len) }
+        }
+        5 | 6 => Call::Erase { offset, len },
+        _ => Call::Barrier,
+    }
+}
+
 // ---- buffers longer than a u32 can count
 
 /// A device and a buffer of zeros of so many bytes. There is nothing smaller of the kind.
@@ -655,16 +870,19 @@ impl common::Answer for LongTold {
 }
 
 /// Where the Rust has no such device, what is asked of the media without a geometry is held to a device of as many cells.
-fn rust_long(long: &Long, buffer: &mut [u8]) -> LongTold {
+fn rust_long(long: &Long, buffer: &mut [u8], document: &Document) -> LongTold {
     let cells = long.media.len() as u32;
     let mut media =
         rust_device([cells, 1, 1, 1], 0, &long.media).expect("units of a byte, and media of their capacity");
-    let (read, program) = match rust_device(long.units, 0, &long.media) {
-        Ok(mut device) => {
-            (refusal_of(device.read(long.offset, buffer)), refusal_of(device.program(long.offset, buffer)))
-        }
-        Err(number) => (number, number),
-    };
+    let by_document = [0, 1].map(|kind| {
+        let call = Tested { kind, offset: long.offset, len: long.len as u64, src: buffer };
+        document.number(long.units, 0, &long.media, call)
+    });
+    if let Some(mut device) = rust_device(long.units, 0, &long.media) {
+        let rust = [refusal_of(device.read(long.offset, buffer)), refusal_of(device.program(long.offset, buffer))];
+        assert_eq!(rust, by_document, "the Rust's numbers and document 01's for {long:?}");
+    }
+    let [read, program] = by_document;
     LongTold {
         read,
         program,
@@ -703,28 +921,29 @@ fn zeros(len: usize) -> Option<Vec<u8>> {
     }
 }
 
-/// A buffer of 2^32 bytes or more: 6 comes before 4 and 5, after 7 and 1 to 3.
-fn longer_than_u32(comparison: &mut Comparison) -> Result<(), Difference> {
-    const LENS: [usize; 2] = [1 << 32, (1 << 32) + 8];
+/// A buffer of 2^32 bytes or more, with units, offsets, lengths and media that are refused and that are not. Whether there was
+/// room for one.
+fn longer_than_u32(comparison: &mut Comparison, document: &Document) -> Result<bool, Difference> {
+    const LENS: [usize; 4] = [1 << 32, (1 << 32) + 8, (1 << 32) + 1, (1 << 32) + 6];
     let Some(buffer) = zeros(LENS[1]) else {
         eprintln!("run: note: there is no room for 4 GiB, so no buffer longer than a u32 can count was compared");
-        return Ok(());
+        return Ok(false);
     };
     let buffer = RefCell::new(buffer);
-    for units in [[16, 8, 4, 4], [16, 3, 4, 4], [20, 8, 4, 4], [1, 1, 1, 1], [0, 8, 4, 4]] {
-        for place in 0..2 * 2 * 4 {
-            let cells = units[0] + 1 - place % 2;
-            let len = LENS[place as usize / 2 % 2];
-            let offset = [0, 2, 4, u32::MAX][place as usize / 4];
+    let rust = |long: &Long| rust_long(long, &mut buffer.borrow_mut()[..long.len], document);
+    let ours = |long: &Long| our_long(long, &mut buffer.borrow_mut()[..long.len]);
+    for units in [[16, 8, 4, 4], [16, 3, 4, 4], [20, 8, 4, 4], [1, 1, 1, 1], [0, 8, 4, 4], [16, 4, 8, 4]] {
+        for place in 0..3 * 4 * 4 {
+            let cells = [units[0], units[0] + 1, 1][place % 3];
+            let len = LENS[place / 3 % 4];
+            let offset = [0, 2, 4, u32::MAX][place / 12];
             if cells > 0 {
                 let long = Long { units, media: bytes(&mut comparison.random, 0, cells), offset, len };
-                let rust = |long: &Long| rust_long(long, &mut buffer.borrow_mut()[..long.len]);
-                let ours = |long: &Long| our_long(long, &mut buffer.borrow_mut()[..long.len]);
                 comparison.same(&long, rust, ours)?;
             }
         }
     }
-    Ok(())
+    Ok(true)
 }
 
 // ---- times
@@ -852,7 +1071,7 @@ fn sample() -> String {
     for rule in 0..2 {
         for (units, cells) in SAMPLE_DEVICES.into_iter().zip(SAMPLE_CELLS) {
             let calls = Calls { units, rule, media: vec![0xFF; cells], calls: sample_calls() };
-            for (call, step) in calls.calls.iter().zip(rust_steps(&calls).0) {
+            for (call, step) in calls.calls.iter().zip(rust_steps(&calls, &Document::new()).0) {
                 let (kind, offset, len) = match call {
                     Call::Program { offset, src } => (0, *offset, src.len() as u32),
                     Call::Read { offset, len } => (1, *offset, *len),
