@@ -13,6 +13,7 @@ use super::{
 };
 use crate::common::{self, Comparison, Difference, Input, Layer, Random, bench_row, smaller_numbers};
 use std::cell::{Cell, RefCell};
+use std::ops::Range;
 use waymaker_fault::device::{Device, FaultError, OneWayBits};
 use waymaker_fault::inject::{Injection, Op, Progress, injections};
 use waymaker_fault::inside;
@@ -372,10 +373,13 @@ fn compare(comparison: &mut Comparison) -> Result<(), Difference> {
         comparison.same(&case, &counted, ours)?;
     }
     full(comparison)?;
+    let by_hand = SeenByHand::default();
     for _ in 0..comparison.size / 4 {
         let lent = random_columns(&mut comparison.random);
+        by_hand.count(&lent, &by_document(&lent));
         comparison.same(&lent, by_document, from_columns)?;
     }
+    by_hand.all_kinds()?;
     seen.all_kinds()
 }
 
@@ -586,33 +590,81 @@ fn test_by_document(lent: &Lent) -> u32 {
     if kinds < 1024 || codes < 512 || kinds < operations || codes < marks { 13 } else { 0 }
 }
 
+/// A cell of a column, 0 past what it begins with.
+fn cell(of: &[u8], place: u64) -> u8 {
+    of.get(place as usize).copied().unwrap_or(0)
+}
+
+/// "A record runs from its mark to the next, or to the last operation. If the next mark stands earlier, the record is empty."
+fn record_of(lent: &Lent, mark: usize) -> Range<u64> {
+    let (operations, marks) = (lent.state[0], lent.state[1] as usize);
+    let place_of = |mark: usize| lent.places.get(mark).copied().unwrap_or(0);
+    let to = if mark + 1 < marks { place_of(mark + 1) } else { operations };
+    place_of(mark)..to.min(operations)
+}
+
+/// Whether one of these operations is a barrier that answered 0.
+fn acknowledges(lent: &Lent, mut operations: Range<u64>) -> bool {
+    operations.any(|i| cell(&lent.kinds, i) == 2 && cell(&lent.answered, i) == 1)
+}
+
 /// Document 01's records of columns that pass: id, state and torn of each.
 fn records_by_document(lent: &Lent) -> Vec<(u32, u8, u8)> {
     let (operations, marks) = (lent.state[0], lent.state[1] as usize);
     let (place, withheld, end) = (lent.state[4], lent.state[5], u64::from(lent.capacity));
-    let cell = |of: &[u8], i: u64| of.get(i as usize).copied().unwrap_or(0);
-    let place_of = |mark: usize| lent.places.get(mark).copied().unwrap_or(0);
     let outstanding = (place..end.min(place + withheld)).any(|i| cell(&lent.media, i) != cell(&lent.copy, i));
     let mut rows = Vec::new();
     for mark in (0..marks).filter(|&mark| cell(&lent.codes, mark as u64) == 1) {
-        let from = place_of(mark);
-        let to = if mark + 1 < marks { place_of(mark + 1) } else { operations };
-        let own = || (0..operations).filter(|&i| from <= i && i < to);
-        let after = own().filter(|&i| cell(&lent.kinds, i) != 2).max().map_or(from, |last| last + 1);
-        let acknowledges = |i| cell(&lent.kinds, i) == 2 && cell(&lent.answered, i) == 1;
+        let own = || record_of(lent, mark);
         let missing = outstanding && own().any(|i| lent.armed.map(u64::from) == Some(i));
+        let last_write = own().rfind(|&i| cell(&lent.kinds, i) != 2);
         let (state, torn) = if !own().any(|i| cell(&lent.changed, i) == 1) {
+            // "Attempted if nothing in the record changed a cell;"
             (0, 0)
         } else if missing {
+            // "else possibly durable and torn if something is withheld;"
             (1, 1)
-        } else if (after..operations).any(acknowledges) {
+        } else if last_write.is_some_and(|last| acknowledges(lent, last + 1..operations)) {
+            // "else acknowledged if a barrier that answered 0 follows its last program or erase;"
             (2, 0)
         } else {
+            // "else possibly durable": also where there is no program or erase, whatever follows.
             (1, 0)
         };
         rows.push((mark as u32, state, torn));
     }
     rows
+}
+
+/// How often columns lent by hand had a record of barriers alone that is said to have changed a cell, with and without a barrier
+/// that answered 0 in it or behind it. No session leaves such a record.
+#[derive(Default)]
+struct SeenByHand {
+    followed: Cell<u64>,
+    alone: Cell<u64>,
+}
+
+impl SeenByHand {
+    fn count(&self, lent: &Lent, left: &Left) {
+        let entries = if left.number == 0 { left.entries as usize } else { 0 };
+        for row in (0..entries).filter(|&row| (left.states[row], left.torn[row]) == (1, 0)) {
+            let mut own = record_of(lent, left.ids[row] as usize);
+            let followed = acknowledges(lent, own.start..lent.state[0]);
+            if own.all(|i| cell(&lent.kinds, i) == 2) {
+                let counted = if followed { &self.followed } else { &self.alone };
+                counted.set(counted.get() + 1);
+            }
+        }
+    }
+
+    fn all_kinds(&self) -> Result<(), Difference> {
+        let [followed, alone] = [&self.followed, &self.alone].map(Cell::get);
+        println!("  records of changed barriers alone: {followed} with one that answered 0, {alone} without");
+        if followed == 0 || alone == 0 {
+            return Err(Difference(String::from("no record of changed barriers alone was met")));
+        }
+        Ok(())
+    }
 }
 
 /// What document 01 says that these columns leave.
@@ -661,6 +713,8 @@ fn random_columns(random: &mut Random) -> Lent {
     let code = |random: &mut Random, top: u8| {
         if random.below(64) == 0 { top + 1 } else { random.below(u32::from(top) + 1) as u8 }
     };
+    // Now and then barriers alone, which are said to have changed a cell as often as not.
+    let barriers = random.below(4) == 0;
     Lent {
         capacity,
         lengths,
@@ -675,7 +729,7 @@ fn random_columns(random: &mut Random) -> Lent {
         armed: (random.below(4) != 0).then(|| random.below(10)),
         media: (0..10).map(|_| random.below(2) as u8).collect(),
         copy: (0..10).map(|_| random.below(2) as u8).collect(),
-        kinds: (0..12).map(|_| code(random, 2)).collect(),
+        kinds: (0..12).map(|_| if barriers { 2 } else { code(random, 2) }).collect(),
         changed: (0..12).map(|_| code(random, 1)).collect(),
         answered: (0..12).map(|_| code(random, 1)).collect(),
         codes: (0..8).map(|_| code(random, 1)).collect(),

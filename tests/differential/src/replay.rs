@@ -12,6 +12,7 @@ use super::{Call, DEVICES, INTERRUPTIONS, random_call, smaller_injections, told_
 use crate::common::{self, Comparison, Difference, Input, Layer, Random, bench_row, cuts, smaller_numbers, without};
 use std::cell::RefCell;
 use std::collections::BTreeMap;
+use std::ops::Range;
 use waymaker_fault::inject::{Injection, Interruption, Progress};
 
 pub const LAYER: Layer = Layer { name: "replay", compare, bench, sample };
@@ -316,19 +317,27 @@ impl Plain {
         taken.missing.as_ref().is_some_and(|(from, would)| self.media[*from..][..would.len()] != would[..])
     }
 
-    /// Id, state and torn of each begin that was taken.
+    /// "A barrier that answered 0 follows its last program or erase": none does where the record has neither.
+    fn acknowledged(&self, mut own: Range<usize>) -> bool {
+        let last = own.rfind(|&place| self.taken[place].kind != 2);
+        last.is_some_and(|last| self.taken[last + 1..].iter().any(|taken| taken.kind == 2 && taken.answer == 0))
+    }
+
+    /// Id, state and torn of each begin that was taken. "A record holds the operations taken from a taken begin to the next taken
+    /// mark or the list's end."
     fn ledger(&self) -> Vec<(u32, u8, u8)> {
         let mut found = Vec::new();
         for (place, &(id, from)) in self.marks.iter().enumerate() {
             let Some(id) = id else { continue };
             let to = self.marks.get(place + 1).map_or(self.taken.len(), |next| next.1);
             let own = &self.taken[from..to];
-            let after = own.iter().rposition(|taken| taken.kind != 2).map_or(from, |last| from + last + 1);
+            // "Attempted if nothing in the record changed a cell; else possibly durable and torn if something is withheld; else
+            // acknowledged if [..]; else possibly durable."
             let row = if !own.iter().any(|taken| taken.changed) {
                 (id, 0, 0)
             } else if own.iter().any(|taken| self.withheld(taken)) {
                 (id, 1, 1)
-            } else if self.taken[after..].iter().any(|taken| taken.kind == 2 && taken.answer == 0) {
+            } else if self.acknowledged(from..to) {
                 (id, 2, 0)
             } else {
                 (id, 1, 0)
