@@ -1,22 +1,24 @@
-// `sweep` and `judge` on standard output: one part of the text after the other, each from the line where the one before ended. No
-// contract can say what is written. The parts' lengths add up to the length of document 01's text, and each part is what
-// `text_parts` promises.
+// `sweep` and `judge` on standard output: one part of the text after the other, each from the line where the one before ended, up to
+// the first that is not taken. No contract can say what is written. What is told are lines of document 01's text from the first on,
+// with their bytes and whether they are all, and each part is what `text_parts` promises.
 use libc::STDERR_FILENO;
 use libc::STDIN_FILENO;
 use libc::STDOUT_FILENO;
 use text_parts::Part;
 ghost use mathlib.Core.Path.{_≡_};
 ghost use mathlib.Core.Bool.{true};
+ghost use Prim.Native.Nat.{_≤_};
 ghost use lib.ListN.{length, drop};
-ghost use Rattle.sweeps.specs.Sweep.{sweepOutput, judgeOutput};
+ghost use Rattle.text_of_runs.specs.Printout.{sweepLines, judgeLines};
 ghost use Rattle.text_parts.specs.Parts.{partLeft, partOf};
-ghost use Rattle.printing.specs.Output.{linesFor, outputFor};
+ghost use Rattle.printing.specs.Output.{printedOf, linesFor};
 
 // One byte more than the longest script has: enough to know that a text is too long.
 pub const ENOUGH: usize = 65537;
 
-// How many bytes the text has, and whether standard output took them all.
+// How many lines standard output took, how many bytes these have, and whether they are the whole text.
 pub struct Printed {
+    pub lines: u64,
     pub bytes: u64,
     pub taken: bool,
 }
@@ -51,11 +53,8 @@ fn part_of(judged: bool, text: &[u8], from: u64, out: &mut [u8]) -> Part
     text_parts::sweep_part(text, from, out)
 }
 
-// Writes bytes to standard output, if it took all before them: whether it took these too.
-fn hand_over(taking: bool, bytes: &[u8]) -> bool {
-    if !taking {
-        return false;
-    }
+// Writes bytes to standard output: whether it took them.
+fn hand_over(bytes: &[u8]) -> bool {
     let taken = io::write_all(STDOUT_FILENO, bytes);
     if !taken {
         io::write_all(
@@ -66,45 +65,54 @@ fn hand_over(taking: bool, bytes: &[u8]) -> bool {
     taken
 }
 
-// Prints a program's text. Where standard output stops taking, the rest is counted and not written.
+// Prints a program's text up to the first part that standard output does not take: no run is made for nobody.
 fn print(judged: bool, text: &[u8]) -> Printed
-    ensures { λ r. ⌜ r .bytes ≡ length (outputFor judged (now (text .entry))) ⌝ }
+    ensures { λ r. ⌜ (r .lines ≤ length (linesFor judged (now (text .entry)))) × (r ≡ printedOf (linesFor judged (now (text .entry))) (r .lines)) ⌝ }
 {
     let mut out = [0u8; 262144];
     let mut from: u64 = 0;
     let mut printed: u64 = 0;
-    let mut taken = true;
     loop {
         let part = part_of(judged, text, from, &mut out);
         let Part::Lines(lines, bytes, left) = part else {
             // Never taken: there is room for every line.
             return Printed {
-                bytes: printed,
-                taken,
+                lines: 0,
+                bytes: 0,
+                taken: false,
             };
         };
-        taken = hand_over(taken, &out[..bytes]);
-        printed += bytes as u64;
-        if left == 0 {
+        let next = from + lines;
+        let sum = printed + bytes as u64;
+        if !hand_over(&out[..bytes]) {
             return Printed {
+                lines: from,
                 bytes: printed,
-                taken,
+                taken: false,
             };
         }
-        from += lines;
+        if left == 0 {
+            return Printed {
+                lines: next,
+                bytes: sum,
+                taken: true,
+            };
+        }
+        from = next;
+        printed = sum;
     }
 }
 
 // Prints every run of a script with its ledger, or what refuses it.
 pub fn print_sweep(text: &[u8]) -> Printed
-    ensures { λ r. ⌜ r .bytes ≡ length (sweepOutput (now (text .entry))) ⌝ }
+    ensures { λ r. ⌜ (r .lines ≤ length (sweepLines (now (text .entry)))) × (r ≡ printedOf (sweepLines (now (text .entry))) (r .lines)) ⌝ }
 {
     print(false, text)
 }
 
 // Prints every run of a script with the verdict on its suggested history, or what refuses it.
 pub fn print_judge(text: &[u8]) -> Printed
-    ensures { λ r. ⌜ r .bytes ≡ length (judgeOutput (now (text .entry))) ⌝ }
+    ensures { λ r. ⌜ (r .lines ≤ length (judgeLines (now (text .entry)))) × (r ≡ printedOf (judgeLines (now (text .entry))) (r .lines)) ⌝ }
 {
     print(true, text)
 }
