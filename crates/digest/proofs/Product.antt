@@ -1,29 +1,49 @@
--- A product with a constant modulo 2^64, one power of two after the other, with shifts and wrapping sums. Assumes nothing.
-use mathlib.Core.Path.{_≡_, _∙_, sym, ap}
-use Prim.Native.Nat.{ℕ, _+_, _*_, _%_, _^_, _<_}
-use native.Mathlib.Nat.{add-mod, mul-add, mod-eq-of-lt, mul-one}
-use Rattle.digest.specs.Fnv.{prime}
+-- A product modulo 2^64 by the bits of its second factor, the lowest first.
+--     odd, even     a bit is taken off: the sum so far and the product that is left are together what they were
+--     none-left     no bit is left, and the sum is the product
+-- Assumes nothing.
+use mathlib.Core.Path.{_≡_, sym, ap, _∙_}
+use Prim.Native.Nat.{ℕ, _+_, _*_, _/_, _%_, _^_, _<_}
+use native.Mathlib.Nat.{div-add-mod'}
+use native.Mathlib.Omega.{arith}
 
--- one power of two more
-one-more : (h p m s r : ℕ) → s ≡ h * m % 2 ^ 64 → r ≡ (h * p % 2 ^ 64 + s) % 2 ^ 64 → r ≡ h * (p + m) % 2 ^ 64
-one-more h p m s r e q =
-    q ∙ ap (λ (x : ℕ). (h * p % 2 ^ 64 + x) % 2 ^ 64) e ∙ sym (add-mod (h * p) (h * m) (2 ^ 64)) ∙ ap (λ (x : ℕ). x % 2 ^ 64) (sym (mul-add h p m))
+-- a multiple of 2^64 in a factor changes nothing
+multiple : (s k d q : ℕ) → (s + d * q) % 2 ^ 64 ≡ (s + (k * 2 ^ 64 + d) * q) % 2 ^ 64
+multiple s k d q = omega arith
 
--- FNV's prime, bit by bit
-pub by-bits : (h a b c d e r : ℕ) → h < 2 ^ 64
-    → a ≡ (h * 2 ^ 1 % 2 ^ 64 + h) % 2 ^ 64
-    → b ≡ (h * 2 ^ 4 % 2 ^ 64 + a) % 2 ^ 64
-    → c ≡ (h * 2 ^ 5 % 2 ^ 64 + b) % 2 ^ 64
-    → d ≡ (h * 2 ^ 7 % 2 ^ 64 + c) % 2 ^ 64
-    → e ≡ (h * 2 ^ 8 % 2 ^ 64 + d) % 2 ^ 64
-    → r ≡ (h * 2 ^ 40 % 2 ^ 64 + e) % 2 ^ 64
-    → r ≡ h * prime % 2 ^ 64
-by-bits h a b c d e r f ha hb hc hd he hr =
-    one-more h (2 ^ 40) 435 e r
-    (one-more h (2 ^ 8) 179 d e
-    (one-more h (2 ^ 7) 51 c d
-    (one-more h (2 ^ 5) 19 b c
-    (one-more h (2 ^ 4) 3 a b
-    (one-more h (2 ^ 1) 1 h a
-    (sym (ap (λ (x : ℕ). x % 2 ^ 64) (mul-one h) ∙ mod-eq-of-lt f))
-    ha) hb) hc) hd) he) hr
+factor-wraps : (s d q : ℕ) → (s + d % 2 ^ 64 * q) % 2 ^ 64 ≡ (s + d * q) % 2 ^ 64
+factor-wraps s d q = multiple s (d / 2 ^ 64) (d % 2 ^ 64) q ∙ ap (λ (x : ℕ). (s + x * q) % 2 ^ 64) (div-add-mod' d (2 ^ 64))
+
+sum-wraps : (s y : ℕ) → (s % 2 ^ 64 + y) % 2 ^ 64 ≡ (s + y) % 2 ^ 64
+sum-wraps s y = omega arith
+
+-- twice the factor, half of the bits, and the lowest bit
+halved : (s d q b : ℕ) → s + d * b + d * 2 ^ 1 * q ≡ s + d * (q * 2 + b)
+halved s d q b = omega arith
+
+lowest : (s d l b : ℕ) → l % 2 ≡ b → s + d * b + d * 2 ^ 1 * (l / 2) ≡ s + d * l
+lowest s d l b e = halved s d (l / 2) b ∙ ap (λ (x : ℕ). s + d * (l / 2 * 2 + x)) (sym e) ∙ ap (λ (x : ℕ). s + d * x) (div-add-mod' l 2)
+
+-- with the lowest bit b, from a sum that has grown by d * b, wrapped or not
+step : (s d l b t : ℕ) → l % 2 ≡ b → (t + d * 2 ^ 1 * (l / 2)) % 2 ^ 64 ≡ (s + d * b + d * 2 ^ 1 * (l / 2)) % 2 ^ 64
+    → (t + d * 2 ^ 1 % 2 ^ 64 * (l / 2)) % 2 ^ 64 ≡ (s + d * l) % 2 ^ 64
+step s d l b t e g = factor-wraps t (d * 2 ^ 1) (l / 2) ∙ g ∙ ap (λ (x : ℕ). x % 2 ^ 64) (lowest s d l b e)
+
+once : (s d : ℕ) → s + d ≡ s + d * 1
+once s d = omega arith
+
+never : (s d : ℕ) → s ≡ s + d * 0
+never s d = omega arith
+
+pub odd : (s d l t : ℕ) → l % 2 ≡ 1 → t ≡ (s + d) % 2 ^ 64 → (t + d * 2 ^ 1 % 2 ^ 64 * (l / 2)) % 2 ^ 64 ≡ (s + d * l) % 2 ^ 64
+odd s d l t e q =
+    step s d l 1 t e
+    (ap (λ (x : ℕ). (x + d * 2 ^ 1 * (l / 2)) % 2 ^ 64) q
+    ∙ sum-wraps (s + d) (d * 2 ^ 1 * (l / 2))
+    ∙ ap (λ (x : ℕ). (x + d * 2 ^ 1 * (l / 2)) % 2 ^ 64) (once s d))
+
+pub even : (s d l t : ℕ) → l % 2 ≡ 0 → t ≡ s → (t + d * 2 ^ 1 % 2 ^ 64 * (l / 2)) % 2 ^ 64 ≡ (s + d * l) % 2 ^ 64
+even s d l t e q = step s d l 0 t e (ap (λ (x : ℕ). (x + d * 2 ^ 1 * (l / 2)) % 2 ^ 64) (q ∙ never s d))
+
+pub none-left : (s d l n : ℕ) → l ≡ 0 → s < 2 ^ 64 → (s + d * l) % 2 ^ 64 ≡ n → s ≡ n
+none-left s d l n e f inv = let z : (s + d * 0) % 2 ^ 64 ≡ n = rw e at inv in omega arith

@@ -27,8 +27,8 @@ shared-slice-read-mixed c = search needs
 cast-mixed : tie.Need-cast-mixed Inv-loop μ-loop
 cast-mixed c = omega (arith, c .shared-slice-known2 .given (c .before .before .loop .i))
 
-wrapping-mul-prime-requires : tie.Need-wrapping-mul-prime-requires Inv-loop μ-loop
-wrapping-mul-prime-requires c κs = search needs
+wrapping-mul-requires : tie.Need-wrapping-mul-requires Inv-loop μ-loop
+wrapping-mul-requires c κs = search needs
 
 add-i : tie.Need-add-i Inv-loop μ-loop
 add-i c = omega arith
@@ -44,7 +44,7 @@ loop-again c =
     let hash = at-loop .loop .hash in
     let bytes = at-loop .before .before .args .bytes .now in (
       omega arith,
-      ap (λ (h : ℕ). foldl mixed h (drop (i + 1) bytes)) (c .wrapping-mul-prime .ensures)
+      ap (λ (h : ℕ). foldl mixed h (drop (i + 1) bytes)) (c .wrapping-mul .ensures)
           ∙ sym (at-step (foldl mixed hash) bytes i 0 (omega arith))
           ∙ at-loop .loop .inv .1,
     )
@@ -64,7 +64,7 @@ digest-spec =
     loop-holds
     shared-slice-read-mixed
     cast-mixed
-    wrapping-mul-prime-requires
+    wrapping-mul-requires
     add-i
     loop-less
     loop-again
