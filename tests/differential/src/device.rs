@@ -1055,8 +1055,8 @@ fn bench_erase(erased: &[u8], device: &Device) {
 
 // ---- the sample that crates/device_cases replays: the same tables and the same order as in its src/main.rt
 
-const SAMPLE_DEVICES: [[u32; 4]; 4] = [[16, 8, 4, 4], [24, 8, 2, 1], [20, 8, 4, 4], [24, 8, 2, 1]];
-const SAMPLE_CELLS: [usize; 4] = [16, 24, 20, 16];
+const SAMPLE_DEVICES: [[u32; 4]; 5] = [[16, 8, 4, 4], [24, 8, 2, 1], [20, 8, 4, 4], [16, 8, 4, 4], [0, 0, 0, 0]];
+const SAMPLE_CELLS: [usize; 5] = [16, 24, 20, 15, 1];
 const OFFSETS: [u32; 7] = [0, 2, 4, 8, 15, 16, 4_294_967_292];
 const BYTES: [u8; 16] =
     [0xFF, 0xF0, 0x00, 0x0F, 0xA5, 0xFF, 0x7F, 0x5A, 0xFE, 0x80, 0xFF, 0x3C, 0x01, 0xFF, 0xC3, 0x00];
