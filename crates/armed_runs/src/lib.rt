@@ -35,11 +35,7 @@ pub fn told_by(head: Head, armed: Armed) -> Told
 {
     let geometry = head.geometry;
     let bits = rule_of(head.rejected);
-    Told {
-        geometry,
-        bits,
-        armed,
-    }
+    session::told_with(geometry, bits, armed)
 }
 
 // ---- the runs in order

@@ -23,6 +23,7 @@ use Rattle.model.specs.declared.Durability.the-variants.{PossiblyDurable}
 use Rattle.model.specs.Ledger.{Entry}
 use Rattle.session.specs.declared.Told.{Told}
 use Rattle.session.specs.declared.Armed.the-variants.{At}
+use Rattle.session.specs.Armed.{toldWith}
 use Rattle.records.specs.Records.{begin}
 use Rattle.plain.specs.Plain.{Call, act, mark, program, plain}
 use Rattle.plain.specs.Ledger.{ledger}
@@ -63,7 +64,7 @@ pub record Points : Type 0 where
 
 -- "P: bytes 00 00 ff ff over erased, power loss at 2: not torn; 00 00 00 00: torn.": a record's only operation, on a new device
 abbrev pub cutAtTwo : Told
-cutAtTwo = record { geometry = small; bits = Absorbed; armed = At (cutAt 2 PowerLoss) }
+cutAtTwo = toldWith small Absorbed (At (cutAt 2 PowerLoss))
 
 abbrev pub recorded : (id : ℕ) (bytes : List ℕ) → List Call
 recorded id bytes = mark (begin id) ∷ act (program 0 bytes) ∷ []

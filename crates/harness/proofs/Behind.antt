@@ -1,51 +1,45 @@
 -- A range marked behind, row by row. Assumes nothing.
-use mathlib.Core.Path.{_≡_, refl, sym, ap, _∙_}
-use mathlib.Core.Bool.{Bool, true, false, _&&_, _||_, cond}
+use mathlib.Core.Path.{_≡_, sym, ap, _∙_}
+use mathlib.Core.Bool.{Bool, true, false, _||_}
 use mathlib.Core.List.{List, _∷_}
-use Prim.Native.Nat.{ℕ, suc, _+_, _≤_, _<_}
+use Prim.Native.Nat.{ℕ, zero, suc, _+_, _≤_, _<_}
+use native.Mathlib.Nat.{add-zero}
 use native.Mathlib.Omega.{arith}
 use lib.ListN.{getD}
-use lib.Dec.{eqb, ltb}
-use borrow.Author.Tests.{eqb-true}
-use Rattle.script.specs.Calls.{Call, begin, end, mark, program, erase, barrier}
+use lib.Dec.{ltb}
+use borrow.Author.Tests.{ne-eqb, le-leb}
+use Rattle.script.specs.Calls.{Call}
 use Rattle.script.specs.Columns.{Columns}
-use Rattle.script.specs.Held.{callsIn}
-use Rattle.script_rows.specs.Ready.{Ready}
-use Rattle.script_rows.proofs.Rows.{rowsAt, next-row, rows-first, rows-end}
+use Rattle.script.specs.Held.{callFrom, callsIn}
+use Rattle.rows.specs.Ready.{Ready}
+use Rattle.rows.proofs.Rows.{rowsAt, next-row, rows-first, rows-end}
 use Rattle.sweeps.specs.Decided.{rangeBehind}
 use Rattle.harness.specs.Inner.{isBehind, opsIn}
 
--- a kind is one letter
-one-letter : (kind x y : ℕ) (b : Bool) → eqb kind x ≡ true → eqb kind y ≡ b → (x ≡ y → ⊥) → b ≡ false
-one-letter kind x y false p q n = refl
-one-letter kind x y true p q n = absurd (n (sym (eqb-true kind x p) ∙ eqb-true kind y q))
+one-more : (n : ℕ) → suc n ≡ n + 1
+one-more n = omega arith
 
--- a row's part in it, over the tests of its letter
-by-letter : (n first second third : ℕ) (bytes : List ℕ) (xs : List Call) (kind : ℕ) (a b c d e : Bool)
-    → eqb kind 66 ≡ a → eqb kind 78 ≡ b → eqb kind 77 ≡ c
-    → rangeBehind n (cond a (begin first) (cond b end (cond c (mark first second third) (cond d (program first bytes) (cond e (erase first second) barrier)))) ∷ xs)
-    ≡ (c && (ltb second n || ltb third n) || rangeBehind (n + cond (a || b || c) 0 1) xs)
+-- a row's part in it, by its kind
+by-kind : (n kind first second third start : ℕ) (pool : List ℕ) (xs : List Call)
+    → rangeBehind n (callFrom kind first second third start pool ∷ xs) ≡ (isBehind kind second third n || rangeBehind (n + opsIn kind) xs)
 unfolding rangeBehind
-by-letter n first second third bytes xs kind true b c d e p q r =
-    let none : c ≡ false = one-letter kind 66 77 c p r (λ z. omega arith) in
-    let same : n ≡ n + 0 = omega arith in
-    ap (λ (m : ℕ). rangeBehind m xs) same ∙ λ i. sym none i && (ltb second n || ltb third n) || rangeBehind (n + 0) xs
-by-letter n first second third bytes xs kind false true c d e p q r =
-    let none : c ≡ false = one-letter kind 78 77 c q r (λ z. omega arith) in
-    let same : n ≡ n + 0 = omega arith in
-    ap (λ (m : ℕ). rangeBehind m xs) same ∙ λ i. sym none i && (ltb second n || ltb third n) || rangeBehind (n + 0) xs
-by-letter n first second third bytes xs kind false false true d e p q r =
-    let same : n ≡ n + 0 = omega arith in
-    ap (λ (m : ℕ). ltb second n || ltb third n || rangeBehind m xs) same
-by-letter n first second third bytes xs kind false false false true e p q r =
-    let same : suc n ≡ n + 1 = omega arith in
-    ap (λ (m : ℕ). rangeBehind m xs) same
-by-letter n first second third bytes xs kind false false false false true p q r =
-    let same : suc n ≡ n + 1 = omega arith in
-    ap (λ (m : ℕ). rangeBehind m xs) same
-by-letter n first second third bytes xs kind false false false false false p q r =
-    let same : suc n ≡ n + 1 = omega arith in
-    ap (λ (m : ℕ). rangeBehind m xs) same
+by-kind n zero first second third start pool xs = ap (λ (m : ℕ). rangeBehind m xs) (one-more n)
+by-kind n (suc zero) first second third start pool xs = ap (λ (m : ℕ). rangeBehind m xs) (one-more n)
+by-kind n (suc (suc zero)) first second third start pool xs = ap (λ (m : ℕ). rangeBehind m xs) (one-more n)
+by-kind n (suc (suc (suc zero))) first second third start pool xs = ap (λ (m : ℕ). rangeBehind m xs) (sym (add-zero n))
+by-kind n (suc (suc (suc (suc zero)))) first second third start pool xs = ap (λ (m : ℕ). rangeBehind m xs) (sym (add-zero n))
+by-kind n (suc (suc (suc (suc (suc k))))) first second third start pool xs =
+    let kind : ℕ = suc (suc (suc (suc (suc k)))) in
+    rw (
+      ne-eqb kind 0 (λ e. omega arith),
+      ne-eqb kind 1 (λ e. omega arith),
+      ne-eqb kind 2 (λ e. omega arith),
+      ne-eqb kind 3 (λ e. omega arith),
+      ne-eqb kind 4 (λ e. omega arith),
+      le-leb 5 kind (omega arith),
+      le-leb 3 kind (omega arith),
+    )
+    (ap (λ (m : ℕ). ltb second n || ltb third n || rangeBehind m xs) (sym (add-zero n)))
 
 module _ (rows : ℕ) (k : Columns) (ready : Ready rows k) (i n : ℕ) (e : rangeBehind 0 (callsIn rows k) ≡ rangeBehind n (rowsAt rows k i)) where
   abbrev here : Bool
@@ -55,8 +49,7 @@ module _ (rows : ℕ) (k : Columns) (ready : Ready rows k) (i n : ℕ) (e : rang
   row-is h =
       let kind : ℕ = getD (k .kinds) i 0 in
       e ∙ ap (rangeBehind n) (next-row rows k ready i h)
-      ∙ by-letter n (getD (k .firsts) i 0) (getD (k .seconds) i 0) (getD (k .thirds) i 0) _ (rowsAt rows k (i + 1)) kind (eqb kind 66) (eqb kind 78) (eqb kind 77) (eqb kind 80) (eqb kind 69)
-      refl refl refl
+      ∙ by-kind n kind (getD (k .firsts) i 0) (getD (k .seconds) i 0) (getD (k .thirds) i 0) (getD (k .starts) i 0) (k .pool) (rowsAt rows k (i + 1))
 
   pub behind-found : i < rows → (b : Bool) → b ≡ here → b ≡ true → true ≡ rangeBehind 0 (callsIn rows k)
   behind-found h b p q = sym (row-is h ∙ ap (λ (x : Bool). x || rangeBehind (n + opsIn (getD (k .kinds) i 0)) (rowsAt rows k (i + 1))) (sym p ∙ q))

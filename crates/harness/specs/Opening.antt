@@ -7,15 +7,13 @@ use Rattle.inject.specs.declared.Counted.{Counted}
 use Rattle.inject.specs.declared.Counted.the-variants.{Points, NotCounted}
 use Rattle.inject.specs.Answers.{counted}
 use Rattle.session.specs.declared.Armed.the-variants.{Nothing}
-use Rattle.session.specs.Log.{Log, Marks}
 use Rattle.script.specs.declared.Head.{Head}
 use Rattle.script.specs.Calls.{Call}
 use Rattle.script.specs.Columns.{Columns}
 use Rattle.script.specs.Held.{callsIn}
-use Rattle.writer.specs.declared.Ran.{Ran}
-use Rattle.writer.specs.declared.Ran.the-variants.{Done, NotRun}
-use Rattle.writer.specs.Run.{RunLeft, runCall}
-use Rattle.sweeps.specs.Sweep.{toldBy}
+use Rattle.harness_runs.specs.declared.Ran.{Ran}
+use Rattle.harness_runs.specs.declared.Ran.the-variants.{Ended, NotRun}
+use Rattle.harness_runs.specs.Running.{zeros, RunLeft, runCall, noEntries, cells}
 use Rattle.sweeps.specs.Decided.{meets26}
 use Rattle.harness.specs.declared.Opened.{Opened}
 use Rattle.harness.specs.declared.Opened.the-variants.{Runs, NotSwept}
@@ -32,23 +30,29 @@ openPoints h operations xs kinds offsets lens =
     cond (meets26 h xs) (NotSwept 26) (openCount operations (counted (h .geometry) (take operations kinds) (take operations offsets) (take operations lens)))
 
 -- "24: the fault-free writer returned an error."
-abbrev pub openReply : Head → List Call → Ran → Log → Opened
-openReply h xs (NotRun number) l = NotSwept number
-openReply h xs (Done c failed) l = cond failed (NotSwept 24) (openPoints h (c .operations) xs (l .kinds) (l .offsets) (l .lens))
+abbrev pub openReply : Head → List Call → Ran → (kinds offsets lens : List ℕ) → Opened
+openReply h xs (NotRun number) ks os ls = NotSwept number
+openReply h xs (Ended stop operations entries failed) ks os ls = cond failed (NotSwept 24) (openPoints h operations xs ks os ls)
 
--- what is left: the reply, and all that the fault-free run left
+-- what is left: the reply, media and copy, and the operations that the fault-free run recorded
 pub record OpenLeft : Type 0 where
   pub reply : Opened
   pub media : List ℕ
   pub copy : List ℕ
-  pub log : Log
-  pub marks : Marks
+  pub kinds : List ℕ
+  pub offsets : List ℕ
+  pub lens : List ℕ
 
-abbrev pub openLeft : Opened → (media copy : List ℕ) → Log → Marks → OpenLeft
-openLeft r d c l m = record { reply = r; media = d; copy = c; log = l; marks = m }
+abbrev pub openLeft : Opened → (media copy kinds offsets lens : List ℕ) → OpenLeft
+openLeft r d c k o l = record { reply = r; media = d; copy = c; kinds = k; offsets = o; lens = l }
 
 abbrev pub openedWith : Head → List Call → RunLeft → OpenLeft
-openedWith h xs w = openLeft (openReply h xs (w .reply) (w .log)) (w .media) (w .copy) (w .log) (w .marks)
+openedWith h xs w = openLeft (openReply h xs (w .reply) (w .kinds) (w .offsets) (w .lens)) (w .media) (w .copy) (w .kinds) (w .offsets) (w .lens)
 
-unfoldable pub openCall : Head → (rows : ℕ) → Columns → (media copy : List ℕ) → Log → Marks → OpenLeft
-openCall h rows k media copy l m = openedWith h (callsIn rows k) (runCall (toldBy h Nothing) (h .«carries_on») rows k media copy l m)
+unfoldable pub openCall : Head → (rows : ℕ) → Columns → (media copy kinds offsets lens : List ℕ) → OpenLeft
+openCall h rows k media copy ks os ls =
+    openedWith h (callsIn rows k) (runCall h Nothing rows k media copy ks os ls noEntries)
+
+-- over columns of zeros
+unfoldable pub openOn : Head → (rows : ℕ) → Columns → OpenLeft
+openOn h rows k = openCall h rows k (cells h) (cells h) (zeros 1024) (zeros 1024) (zeros 1024)

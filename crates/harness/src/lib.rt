@@ -1,17 +1,16 @@
 // A sweep, opened: the fault-free run of a script's rows, which tells how many crash points there are or why there is no
-// sweep. It follows `Harness` in waymaker-fault's session.rs, with a script's rows for its closure. `armed_runs` has what is
-// armed in each run, and `harness_runs` the run.
+// sweep. It follows `Harness` in waymaker-fault's session.rs, with a script's rows for its closure. `harness_runs` has the run, and
+// `armed_runs` what is armed in each.
+use harness_runs::Ran;
 use inject::Counted;
 use script::Head;
 use session::Armed;
-use writer::Ran;
 ghost use mathlib.Core.Path.{_≡_};
 ghost use Prim.Native.Nat.{_≤_, min};
 ghost use lib.ListN.{length};
-ghost use Rattle.session.specs.Log.{logOf, marksOf};
 ghost use Rattle.script.specs.Columns.{columns};
 ghost use Rattle.script.specs.Held.{callsIn};
-ghost use Rattle.script_rows.specs.Ready.{Ready};
+ghost use Rattle.rows.specs.Ready.{Ready};
 ghost use Rattle.sweeps.specs.Decided.{rangeBehind};
 ghost use Rattle.harness.specs.Opening.{openPoints, openLeft, openCall};
 ghost use Rattle.harness.specs.Inner.{isBehind, opsIn};
@@ -29,18 +28,14 @@ pub enum Opened {
 fn is_behind(kind: u8, from: u32, to: u32, operations: usize) -> bool
     ensures { λ r. ⌜ r ≡ isBehind kind from to operations ⌝ }
 {
-    (kind == b'M') & (((from as usize) < operations) | ((to as usize) < operations))
+    (kind >= 5) & (((from as usize) < operations) | ((to as usize) < operations))
 }
 
 // How many operations a row is: none, if it is a mark.
 fn operations_in(kind: u8) -> usize
     ensures { λ r. ⌜ (r ≡ opsIn kind) × (r ≤ 1) ⌝ }
 {
-    if (kind == b'B') | (kind == b'N') | (kind == b'M') {
-        0
-    } else {
-        1
-    }
+    if kind >= 3 { 0 } else { 1 }
 }
 
 // Whether some row marks a range that begins or ends before an operation of an earlier row.
@@ -113,23 +108,18 @@ pub fn open_sweep(
     pool: &[u8],
     media: &mut [u8],
     copy: &mut [u8],
-    ops: &mut [u8],
-    spans: &mut [u32],
-    sizes: &mut [u32],
-    digests: &mut [u64],
-    changed: &mut [u8],
-    answered: &mut [u8],
-    marks: &mut [u8],
-    named: &mut [u32],
-    places: &mut [u64],
+    ops: &mut [u8; 1024],
+    spans: &mut [u32; 1024],
+    sizes: &mut [u32; 1024],
 ) -> Opened
-    ensures { λ r. ⌜ openLeft r (now (media .exit)) (now (copy .exit)) (logOf (now (ops .exit)) (now (spans .exit)) (now (sizes .exit)) (now (digests .exit)) (now (changed .exit)) (now (answered .exit))) (marksOf (now (marks .exit)) (now (named .exit)) (now (places .exit))) ≡ openCall head rows (columns (now (kinds .entry)) (now (firsts .entry)) (now (seconds .entry)) (now (thirds .entry)) (now (starts .entry)) (now (pool .entry))) (now (media .entry)) (now (copy .entry)) (logOf (now (ops .entry)) (now (spans .entry)) (now (sizes .entry)) (now (digests .entry)) (now (changed .entry)) (now (answered .entry))) (marksOf (now (marks .entry)) (now (named .entry)) (now (places .entry))) ⌝ }
+    ensures { λ r. ⌜ openLeft r (now (media .exit)) (now (copy .exit)) (now (ops .exit)) (now (spans .exit)) (now (sizes .exit)) ≡ openCall head rows (columns (now (kinds .entry)) (now (firsts .entry)) (now (seconds .entry)) (now (thirds .entry)) (now (starts .entry)) (now (pool .entry))) (now (media .entry)) (now (copy .entry)) (now (ops .entry)) (now (spans .entry)) (now (sizes .entry)) ⌝ }
 {
-    let told = armed_runs::told_by(head, Armed::Nothing);
-    let carries = head.carries_on;
-    let ran = writer::run_script(
-        told,
-        carries,
+    let mut ids = [0u32; 512];
+    let mut states = [0u8; 512];
+    let mut torn = [0u8; 512];
+    let ran = harness_runs::run_one(
+        head,
+        Armed::Nothing,
         rows,
         kinds,
         firsts,
@@ -142,22 +132,19 @@ pub fn open_sweep(
         ops,
         spans,
         sizes,
-        digests,
-        changed,
-        answered,
-        marks,
-        named,
-        places,
+        &mut ids,
+        &mut states,
+        &mut torn,
     );
     match ran {
         Ran::NotRun(number) => Opened::NotSwept(number),
-        Ran::Done(counters, failed) => {
+        Ran::Ended(_, operations, _, failed) => {
             if failed {
                 return Opened::NotSwept(24);
             }
             open_points(
                 head,
-                counters.operations,
+                operations,
                 rows,
                 kinds,
                 firsts,

@@ -1,96 +1,79 @@
--- A run of a sweep from its parts: refused by its number, or a script's run and its ledger. Assumes nothing.
-use mathlib.Core.Path.{_≡_, sym, ap, _∙_}
-use mathlib.Core.Bool.{Bool, _||_}
-use mathlib.Core.List.{List}
+-- A run of a sweep from its parts: refused by its number, or the rows and the ledger. Assumes nothing.
+use mathlib.Core.Path.{_≡_, refl, sym, ap, _∙_}
+use mathlib.Core.Bool.{Bool, true, false}
+use mathlib.Core.List.{List, map}
 use Prim.Native.Nat.{ℕ}
-use native.Mathlib.Omega.{arith}
-use lib.ListN.{length}
+use lib.ListN.{length, take, replicate}
+use lib.Dec.{leb}
 use borrow.Author.Tests.{ne-eqb}
 use Rattle.device.specs.Media.{newMedia}
+use Rattle.model.specs.Columns.{allUpTo}
 use Rattle.session.specs.declared.Armed.{Armed}
 use Rattle.session.specs.declared.Told.{Told}
 use Rattle.session.specs.declared.Counters.{Counters}
-use Rattle.session.specs.Log.{Log, Marks}
-use Rattle.session.specs.Tests.{logUnevenOf, marksUnevenOf, logShort, marksShort}
+use Rattle.session.specs.Log.{Log, logOf, Marks, marksOf}
 use Rattle.session.specs.Start.{fresh}
 use Rattle.ledger.specs.declared.Derived.{Derived}
-use Rattle.ledger.specs.Ledger.{entriesUneven, Entered, Ledgered, ledgered, ledgerCall}
+use Rattle.ledger.specs.Ledger.{Entered, Ledgered, ledgered, ledgerCall}
 use Rattle.threaded.specs.Threaded.{Session}
 use Rattle.script.specs.declared.Head.{Head}
 use Rattle.script.specs.Columns.{Columns}
 use Rattle.script.specs.Held.{callsIn}
-use Rattle.cleared.specs.Cleared.{clearedLog, clearedMarks}
-use Rattle.script_rows.specs.Rows.{rowsNumber}
-use Rattle.script_rows.proofs.Numbers.{fewer}
-use Rattle.writer.specs.declared.Ran.{Ran}
-use Rattle.writer.specs.declared.Ran.the-variants
-use Rattle.writer.specs.Writer.{Wrote, wrote}
-use Rattle.writer.specs.Run.{RunLeft, runLeft, doneWith, runNumber, runCall}
+use Rattle.rows.proofs.Numbers.{kinds-known}
+use Rattle.steps.specs.Writer.{Wrote, wrote}
+use Rattle.steps.specs.Step.{sessionOf, Task, call}
+use Rattle.runner.specs.declared.Ended.{Ended}
+use Rattle.runner.specs.Run.{tasksIn, Outcome, ranRows, Leaves, leftOf, leaves}
+use Rattle.runner.proofs.Lines.{tasks-calls, wroteBy, writes}
 use Rattle.sweeps.specs.Sweep.{toldBy}
-use Rattle.harness_runs.specs.declared.RunAt.{RunAt}
-use Rattle.harness_runs.specs.declared.RunAt.the-variants.{NotRun}
-use Rattle.harness_runs.specs.Running.{runAtNumber, endedBy, ranAt, ranAs, ranWith, runAtCall}
+use Rattle.harness_runs.specs.declared.Ran.{Ran}
+use Rattle.harness_runs.specs.declared.Ran.the-variants.{NotRun}
+use Rattle.harness_runs.specs.Running.{zeros, endedBy, runLeft, leftBy, ledgeredWith, opening, runNumber, runCall}
 
--- the counters that a run ended with
-done-counters : (c c₁ : Counters) (f f₁ : Bool) → the-variants.Done c f ≡ the-variants.Done c₁ f₁ → c ≡ c₁
-done-counters c c₁ f f₁ e = cc
+-- a session's own columns of zeros
+pub zeros-are : (n : ℕ) → replicate n 0 ≡ zeros n
+unfolding zeros
+zeros-are n = refl
 
-module _ (h : Head) (a : Armed) (rows : ℕ) (k : Columns) (media copy : List ℕ) (l : Log) (m : Marks) (e : Entered) (log noted listed : Bool) (refused : ℕ)
-    (p : log ≡ logUnevenOf l) (q : noted ≡ marksUnevenOf m) (w : listed ≡ entriesUneven (length (e .ids)) (length (e .states)) (length (e .torn)))
-    (r : refused
-    ≡ rowsNumber (h .geometry) (length media) (length copy) (log || noted || listed)
-    (logShort (length (l .kinds)) || marksShort (length (m .codes)) || marksShort (length (e .ids))) rows k) where
-  abbrev short : Bool
-  short = logShort (length (l .kinds)) || marksShort (length (m .codes)) || marksShort (length (e .ids))
+module _ (h : Head) (a : Armed) (rows : ℕ) (k : Columns) (media copy ks os ls : List ℕ) (e : Entered) (refused : ℕ)
+    (n : refused ≡ runNumber h rows k (length media) (length copy)) where
+  pub run-refused : (refused ≡ 0 → ⊥) → runLeft (NotRun refused) media copy ks os ls e ≡ runCall h a rows k media copy ks os ls e
+  unfolding runCall
+  run-refused z = rw (← n, ne-eqb refused 0 z)
 
-  number-is : runAtNumber h rows k (length media) (length copy) l m e ≡ refused
-  number-is = sym (r ∙ λ i. rowsNumber (h .geometry) (length media) (length copy) (p i || q i || w i) short rows k)
-
-  pub at-refused : (refused ≡ 0 → ⊥) → ranAt (NotRun refused) media copy l m e ≡ runAtCall h a rows k media copy l m e
-  unfolding runAtCall
-  at-refused n = rw (number-is, ne-eqb refused 0 n)
-
-  module _ (none : refused ≡ 0) (t : Told) (et : t ≡ toldBy h a) (reply : Ran) (media₁ copy₁ : List ℕ) (l₁ : Log) (m₁ : Marks)
-      (run : runLeft reply media₁ copy₁ l₁ m₁ ≡ runCall t (h .«carries_on») rows k media copy l m) where
+  module _ (none : refused ≡ 0) where
     abbrev told : Told
     told = toldBy h a
 
-    abbrev all : Wrote
-    all =
-        wrote told (h .«carries_on»)
-        (record { counters = fresh; media = newMedia (length media); copy = newMedia (length copy); log = clearedLog l; marks = clearedMarks m }) (callsIn rows k)
+    abbrev first : Session
+    first = opening media copy ks os ls
 
-    run-number : runNumber told rows k (length media) (length copy) l m ≡ 0
-    run-number =
-        fewer (h .geometry) (length media) (length copy) (logUnevenOf l || marksUnevenOf m) (entriesUneven (length (e .ids)) (length (e .states)) (length (e .torn)))
-        (logShort (length (l .kinds)) || marksShort (length (m .codes))) (marksShort (length (e .ids))) rows k (number-is ∙ none)
+    abbrev wrote-all : Wrote
+    wrote-all = wrote told (h .«carries_on») first (callsIn rows k)
 
-    done-is : runCall told (h .«carries_on») rows k media copy l m ≡ doneWith all
+    known : allUpTo 5 (take rows (k .kinds)) ≡ true
+    known = kinds-known (h .geometry) (length media) (length copy) false false 5 rows k (sym n ∙ none)
+
+    run-is : runCall h a rows k media copy ks os ls e ≡ ledgeredWith told wrote-all e
     unfolding runCall
-    done-is = rw run-number
+    run-is = rw (← n, none)
 
-    run-is : runLeft reply media₁ copy₁ l₁ m₁ ≡ doneWith all
-    run-is = run ∙ ap (λ (u : Told). runCall u (h .«carries_on») rows k media copy l m) et ∙ done-is
+    rows-are : wroteBy (ranRows told (h .«carries_on») first (tasksIn rows k)) ≡ wrote-all
+    rows-are =
+        ap (λ (ts : List Task). wroteBy (ranRows told (h .«carries_on») first ts)) (tasks-calls 5 rows k (λ kind z. z) known)
+        ∙ writes told (h .«carries_on») first (callsIn rows k)
 
-    pub at-never : (n : ℕ) → reply ≡ the-variants.NotRun n → ⊥
-    at-never n z =
-        let y : the-variants.NotRun n ≡ the-variants.Done (all .session .counters) (all .failed) = sym z ∙ ap (λ (x : RunLeft). x .reply) run-is in
-        let v : _≡_ {A = ℕ} 0 1 = cc in
-        omega arith
-
-    at-call : runAtCall h a rows k media copy l m e ≡ ranWith told (all .session) e
-    unfolding runAtCall
-    at-call = rw (number-is, none)
-
-    pub at-ended : (c : Counters) (f : Bool) → reply ≡ the-variants.Done c f → (d : Derived) (e₁ : Entered) → ledgered d e₁ ≡ ledgerCall t c media₁ copy₁ l₁ m₁ e
-        → (o : RunAt) → o ≡ endedBy c d → ranAt o media₁ copy₁ l₁ m₁ e₁ ≡ runAtCall h a rows k media copy l m e
-    at-ended c f z d e₁ g o y =
-        let s : Session = record { counters = c; media = media₁; copy = copy₁; log = l₁; marks = m₁ } in
-        let pc : c ≡ all .session .counters = done-counters c (all .session .counters) f (all .failed) (sym z ∙ ap (λ (x : RunLeft). x .reply) run-is) in
-        let pm : media₁ ≡ all .session .media = ap (λ (x : RunLeft). x .media) run-is in
-        let pk : copy₁ ≡ all .session .copy = ap (λ (x : RunLeft). x .copy) run-is in
-        let pl : l₁ ≡ all .session .log = ap (λ (x : RunLeft). x .log) run-is in
-        let pn : m₁ ≡ all .session .marks = ap (λ (x : RunLeft). x .marks) run-is in
-        let ps : s ≡ all .session = λ i. record { counters = pc i; media = pm i; copy = pk i; log = pl i; marks = pn i } in
-        let gt : ledgered d e₁ ≡ ledgerCall told c media₁ copy₁ l₁ m₁ e = g ∙ ap (λ (u : Told). ledgerCall u c media₁ copy₁ l₁ m₁ e) et in
-        ap (λ (x : RunAt). ranAt x media₁ copy₁ l₁ m₁ e₁) y ∙ ap (ranAs s) gt ∙ ap (λ (x : Session). ranWith told x e) ps ∙ sym at-call
+    pub run-ends : (big small : List ℕ) → big ≡ zeros 1024 → small ≡ zeros 512 → (t : Told) → t ≡ told → (c : Counters) (media₁ : List ℕ) → c ≡ fresh → media₁ ≡ newMedia (length media)
+        → (r : Ended) (a₀ a₂ media₂ copy₂ : List ℕ) (l₂ : Log) (m₂ : Marks)
+        → leftOf r a₂ media₂ copy₂ l₂ m₂ ≡ leaves (ranRows t (h .«carries_on») (sessionOf c media₁ copy (logOf ks os ls big big big) (marksOf small small small)) (tasksIn rows k)) a₀
+        → (d : Derived) (e₂ : Entered) → ledgered d e₂ ≡ ledgerCall t (r .counters) media₂ copy₂ l₂ m₂ e → (reply : Ran) → reply ≡ endedBy (r .counters) (r .failed) d
+        → runLeft reply media₂ copy₂ (l₂ .kinds) (l₂ .offsets) (l₂ .lens) e₂ ≡ runCall h a rows k media copy ks os ls e
+    run-ends big small zb zs t et c media₁ ec em r a₀ a₂ media₂ copy₂ l₂ m₂ u d e₂ v reply w =
+        let s : leftOf r a₂ media₂ copy₂ l₂ m₂ ≡ leaves (ranRows told (h .«carries_on») first (tasksIn rows k)) a₀ =
+        u ∙ λ i. leaves (ranRows (et i) (h .«carries_on») (sessionOf (ec i) (em i) copy (logOf ks os ls (zb i) (zb i) (zb i)) (marksOf (zs i) (zs i) (zs i))) (tasksIn rows k)) a₀ in
+        let last : _≡_ {A = Wrote} (record { session = sessionOf (r .counters) media₂ copy₂ l₂ m₂; failed = r .failed }) wrote-all =
+        ap (λ (y : Leaves). record { session = y .session; failed = y .failed }) s ∙ rows-are in
+        let derived : ledgered d e₂ ≡ ledgerCall told (r .counters) media₂ copy₂ l₂ m₂ e = v ∙ ap (λ (x : Told). ledgerCall x (r .counters) media₂ copy₂ l₂ m₂ e) et in
+        ap (λ (y : Ran). runLeft y media₂ copy₂ (l₂ .kinds) (l₂ .offsets) (l₂ .lens) e₂) w
+        ∙ ap (λ (y : Ledgered). leftBy (record { session = sessionOf (r .counters) media₂ copy₂ l₂ m₂; failed = r .failed }) y) derived
+        ∙ ap (λ (y : Wrote). ledgeredWith told y e) last ∙ sym run-is

@@ -1,68 +1,88 @@
 -- Document 01, "Scripts and the two programs": a script's run with at most one injection, and its ledger. Definitions only; assumes nothing.
-use mathlib.Core.Bool.{_||_, cond}
+use mathlib.Core.Bool.{Bool, false, cond}
 use mathlib.Core.List.{List}
 use Prim.Native.Nat.{ℕ}
-use lib.ListN.{length}
+use lib.ListN.{length, take, replicate}
 use lib.Dec.{eqb}
+use Rattle.device.specs.Media.{newMedia}
 use Rattle.session.specs.declared.Armed.{Armed}
 use Rattle.session.specs.declared.Told.{Told}
 use Rattle.session.specs.declared.Counters.{Counters}
-use Rattle.session.specs.Log.{Log, Marks}
-use Rattle.session.specs.Tests.{logUnevenOf, marksUnevenOf, logShort, marksShort}
+use Rattle.session.specs.Log.{logOf, marksOf}
 use Rattle.session.specs.Start.{fresh}
-use Rattle.device.specs.Media.{newMedia}
 use Rattle.ledger.specs.declared.Derived.{Derived}
 use Rattle.ledger.specs.declared.Derived.the-variants.{Entries, NotDerived}
-use Rattle.ledger.specs.Ledger.{entriesUneven, Entered, Ledgered}
+use Rattle.ledger.specs.Ledger.{Entered, enteredOf, Ledgered}
 use Rattle.threaded.specs.Threaded.{Session, sessionLedgered}
 use Rattle.script.specs.declared.Head.{Head}
 use Rattle.script.specs.Columns.{Columns}
 use Rattle.script.specs.Held.{callsIn}
-use Rattle.cleared.specs.Cleared.{clearedLog, clearedMarks}
-use Rattle.script_rows.specs.Rows.{rowsNumber}
-use Rattle.writer.specs.Writer.{wrote}
+use Rattle.rows.specs.Rows.{rowsNumber}
+use Rattle.steps.specs.Writer.{Wrote, wrote}
 use Rattle.sweeps.specs.Sweep.{toldBy}
-use Rattle.harness_runs.specs.declared.RunAt.{RunAt}
-use Rattle.harness_runs.specs.declared.RunAt.the-variants.{Ended, NotRun}
+use Rattle.harness_runs.specs.declared.Ran.{Ran}
+use Rattle.harness_runs.specs.declared.Ran.the-variants.{Ended, NotRun}
 
--- the numbers, the lowest first: 1 to 3, 7, 12, 13. A ledger has at most as many entries as there are marks, 512.
-abbrev pub runAtNumber : Head → (rows : ℕ) → Columns → (media copy : ℕ) → Log → Marks → Entered → ℕ
-runAtNumber h rows k media copy l m e =
-    rowsNumber (h .geometry) media copy (logUnevenOf l || marksUnevenOf m || entriesUneven (length (e .ids)) (length (e .states)) (length (e .torn)))
-    (logShort (length (l .kinds)) || marksShort (length (m .codes)) || marksShort (length (e .ids))) rows k
+-- so many zeros
+unfoldable pub zeros : ℕ → List ℕ
+zeros n = replicate n 0
 
--- the stop, the operations recorded and how many entries; over columns of 1,024 and 512 rows the ledger of a script's run is never refused
--- (`ledger-passes` of `text_of_runs`)
-abbrev pub endedBy : Counters → Derived → RunAt
-endedBy c (Entries count) = Ended (c .stop) (c .operations) count
-endedBy c (NotDerived number) = NotRun number
+-- the stop, the operations recorded, how many entries, and whether the writer returned an error; the ledger of a script's run is never
+-- refused (`ledger-passes` of `text_of_runs`)
+abbrev pub endedBy : Counters → (failed : Bool) → Derived → Ran
+endedBy c failed (Entries count) = Ended (c .stop) (c .operations) count failed
+endedBy c failed (NotDerived number) = NotRun number
 
--- what is left: the reply, all that the session left, and the ledger's columns
-pub record RanAt : Type 0 where
-  pub reply : RunAt
+-- what is left: the reply, media and copy, the recorded operations' kinds, offsets and lengths, and the ledger
+pub record RunLeft : Type 0 where
+  pub reply : Ran
   pub media : List ℕ
   pub copy : List ℕ
-  pub log : Log
-  pub marks : Marks
+  pub kinds : List ℕ
+  pub offsets : List ℕ
+  pub lens : List ℕ
   pub entries : Entered
 
-abbrev pub ranAt : RunAt → (media copy : List ℕ) → Log → Marks → Entered → RanAt
-ranAt r d c l m e = record { reply = r; media = d; copy = c; log = l; marks = m; entries = e }
+abbrev pub runLeft : Ran → (media copy kinds offsets lens : List ℕ) → Entered → RunLeft
+runLeft r d c k o l e = record { reply = r; media = d; copy = c; kinds = k; offsets = o; lens = l; entries = e }
 
-abbrev pub ranAs : Session → Ledgered → RanAt
-ranAs s d = ranAt (endedBy (s .counters) (d .reply)) (s .media) (s .copy) (s .log) (s .marks) (d .columns)
+abbrev pub leftBy : Wrote → Ledgered → RunLeft
+leftBy w d =
+    runLeft (endedBy (w .session .counters) (w .failed) (d .reply)) (w .session .media) (w .session .copy) (w .session .log .kinds) (w .session .log .offsets) (w .session .log .lens) (d .columns)
 
--- a session's end, with its ledger
-abbrev pub ranWith : Told → Session → Entered → RanAt
-ranWith t s e = ranAs s (sessionLedgered t s e)
+-- a writer's end, with its ledger
+abbrev pub ledgeredWith : Told → Wrote → Entered → RunLeft
+ledgeredWith t w e = leftBy w (sessionLedgered t (w .session) e)
 
--- the script's lines through a session on a new device's media, over columns that are cleared first; a refused call changes nothing
-unfoldable pub runAtCall : Head → Armed → (rows : ℕ) → Columns → (media copy : List ℕ) → Log → Marks → Entered → RanAt
-runAtCall h a rows k media copy l m e =
-    cond (eqb (runAtNumber h rows k (length media) (length copy) l m e) 0)
-    (ranWith (toldBy h a)
-    (wrote (toldBy h a) (h .«carries_on»)
-    (record { counters = fresh; media = newMedia (length media); copy = newMedia (length copy); log = clearedLog l; marks = clearedMarks m }) (callsIn rows k)
-    .session)
-    e)
-    (ranAt (NotRun (runAtNumber h rows k (length media) (length copy) l m e)) media copy l m e)
+-- a session on a new device's media, before any call: copy, kinds, offsets and lengths as they were lent
+abbrev pub opening : (media copy kinds offsets lens : List ℕ) → Session
+opening media copy k o l = record {
+  counters = fresh;
+  media = newMedia (length media);
+  copy = copy;
+  log = logOf k o l (zeros 1024) (zeros 1024) (zeros 1024);
+  marks = marksOf (zeros 512) (zeros 512) (zeros 512);
+}
+
+-- "the lowest number comes first": 1 to 3, 7, 12, 13. All else that is lent are arrays of a session's limits.
+abbrev pub runNumber : Head → (rows : ℕ) → Columns → (media copy : ℕ) → ℕ
+runNumber h rows k media copy = rowsNumber (h .geometry) media copy false false 5 rows k
+
+-- the writer's lines through that session, and its ledger; a refused call changes nothing
+unfoldable pub runCall : Head → Armed → (rows : ℕ) → Columns → (media copy kinds offsets lens : List ℕ) → Entered → RunLeft
+runCall h a rows k media copy ks os ls e =
+    cond (eqb (runNumber h rows k (length media) (length copy)) 0)
+    (ledgeredWith (toldBy h a) (wrote (toldBy h a) (h .«carries_on») (opening media copy ks os ls) (callsIn rows k)) e)
+    (runLeft (NotRun (runNumber h rows k (length media) (length copy))) media copy ks os ls e)
+
+-- ---- over columns of zeros
+
+abbrev pub noEntries : Entered
+noEntries = enteredOf (zeros 512) (zeros 512) (zeros 512)
+
+-- media of capacity length, at most 16,384
+abbrev pub cells : Head → List ℕ
+cells h = take (h .geometry .capacity) (zeros 16384)
+
+unfoldable pub ranOn : Head → Armed → (rows : ℕ) → Columns → RunLeft
+ranOn h a rows k = runCall h a rows k (cells h) (cells h) (zeros 1024) (zeros 1024) (zeros 1024) noEntries

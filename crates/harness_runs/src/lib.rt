@@ -1,47 +1,55 @@
-// One run of a sweep: the script's run with what is armed, and its ledger. It follows `Harness` in waymaker-fault's session.rs. A
-// run needs no more than the columns lent to it and depends on nothing that an earlier run left there.
+// One run of a sweep: a script's run with at most one injection, and its ledger. It is `Harness::run_one` of waymaker-fault's
+// session.rs, and, with nothing armed, `run_fault_free`. The digests, the flags and the marks of its session are columns that nobody
+// looks at afterwards: they are the run's own, of zeros.
 use landing::Stop;
 use ledger::Derived;
+use rows::rows_refusal;
 use script::Head;
 use session::Armed;
 use session::Counters;
-use session::MARKS;
-use session::OPERATIONS;
-use writer::Ran;
 ghost use mathlib.Core.Path.{_≡_};
-ghost use Rattle.session.specs.Log.{logOf, marksOf};
-ghost use Rattle.ledger.specs.Ledger.{entriesUneven, enteredOf};
+ghost use Rattle.session.specs.Start.{fresh};
+ghost use Rattle.ledger.specs.Ledger.{enteredOf};
 ghost use Rattle.script.specs.Columns.{columns};
-ghost use Rattle.harness_runs.specs.Running.{endedBy, ranAt, runAtCall};
+ghost use Rattle.harness_runs.specs.Running.{endedBy, runLeft, runCall};
 
-// How a run ended: the session's stop, the operations recorded, and how many entries its ledger has.
-pub enum RunAt {
-    Ended(Stop, usize, usize),
+// How a run ended: the session's stop, the operations recorded, how many entries its ledger has, and whether the writer returned an
+// error; or the number that refuses the run.
+pub enum Ran {
+    Ended(Stop, usize, usize, bool),
     NotRun(u32),
 }
 
-// Whether the ledger's columns are unequal.
-fn entries_uneven(ids: usize, states: usize, torn: usize) -> bool
-    ensures { λ r. ⌜ r ≡ entriesUneven ids states torn ⌝ }
+// A session before any call.
+fn unstarted() -> Counters
+    ensures { λ r. ⌜ r ≡ fresh ⌝ }
 {
-    (states != ids) | (torn != ids)
+    Counters {
+        operations: 0,
+        marks: 0,
+        stop: Stop::Running,
+        fired: false,
+        place: 0,
+        withheld: 0,
+    }
 }
 
 // How a run ended whose ledger was derived.
-fn ended(counters: Counters, derived: Derived) -> RunAt
-    ensures { λ r. ⌜ r ≡ endedBy counters derived ⌝ }
+fn ended(counters: Counters, failed: bool, derived: Derived) -> Ran
+    ensures { λ r. ⌜ r ≡ endedBy counters failed derived ⌝ }
 {
     match derived {
         Derived::Entries(count) => {
             let stop = counters.stop;
-            RunAt::Ended(stop, counters.operations, count)
+            Ran::Ended(stop, counters.operations, count, failed)
         }
-        Derived::NotDerived(number) => RunAt::NotRun(number),
+        Derived::NotDerived(number) => Ran::NotRun(number),
     }
 }
 
-// The script's run with what is armed, and its ledger.
-pub fn run_at(
+// The script's run with what is armed, on a new device's media, and its ledger. Leaves the media, the operations recorded and the
+// ledger's entries.
+pub fn run_one(
     head: Head,
     armed: Armed,
     rows: usize,
@@ -53,39 +61,23 @@ pub fn run_at(
     pool: &[u8],
     media: &mut [u8],
     copy: &mut [u8],
-    ops: &mut [u8],
-    spans: &mut [u32],
-    sizes: &mut [u32],
-    digests: &mut [u64],
-    changed: &mut [u8],
-    answered: &mut [u8],
-    marks: &mut [u8],
-    named: &mut [u32],
-    places: &mut [u64],
-    ids: &mut [u32],
-    states: &mut [u8],
-    torn: &mut [u8],
-) -> RunAt
-    ensures { λ r. ⌜ ranAt r (now (media .exit)) (now (copy .exit)) (logOf (now (ops .exit)) (now (spans .exit)) (now (sizes .exit)) (now (digests .exit)) (now (changed .exit)) (now (answered .exit))) (marksOf (now (marks .exit)) (now (named .exit)) (now (places .exit))) (enteredOf (now (ids .exit)) (now (states .exit)) (now (torn .exit))) ≡ runAtCall head armed rows (columns (now (kinds .entry)) (now (firsts .entry)) (now (seconds .entry)) (now (thirds .entry)) (now (starts .entry)) (now (pool .entry))) (now (media .entry)) (now (copy .entry)) (logOf (now (ops .entry)) (now (spans .entry)) (now (sizes .entry)) (now (digests .entry)) (now (changed .entry)) (now (answered .entry))) (marksOf (now (marks .entry)) (now (named .entry)) (now (places .entry))) (enteredOf (now (ids .entry)) (now (states .entry)) (now (torn .entry))) ⌝ }
+    ops: &mut [u8; 1024],
+    spans: &mut [u32; 1024],
+    sizes: &mut [u32; 1024],
+    ids: &mut [u32; 512],
+    states: &mut [u8; 512],
+    torn: &mut [u8; 512],
+) -> Ran
+    ensures { λ r. ⌜ runLeft r (now (media .exit)) (now (copy .exit)) (now (ops .exit)) (now (spans .exit)) (now (sizes .exit)) (enteredOf (now (ids .exit)) (now (states .exit)) (now (torn .exit))) ≡ runCall head armed rows (columns (now (kinds .entry)) (now (firsts .entry)) (now (seconds .entry)) (now (thirds .entry)) (now (starts .entry)) (now (pool .entry))) (now (media .entry)) (now (copy .entry)) (now (ops .entry)) (now (spans .entry)) (now (sizes .entry)) (enteredOf (now (ids .entry)) (now (states .entry)) (now (torn .entry))) ⌝ }
 {
-    let log = session::log_uneven(
-        ops.len(),
-        spans.len(),
-        sizes.len(),
-        digests.len(),
-        changed.len(),
-        answered.len(),
-    );
-    let noted = session_marks::marks_uneven(marks.len(), named.len(), places.len());
-    let listed = entries_uneven(ids.len(), states.len(), torn.len());
-    let short = (ops.len() < OPERATIONS) | (marks.len() < MARKS) | (ids.len() < MARKS);
     let geometry = head.geometry;
-    let refused = script_rows::rows_refusal(
+    let refused = rows_refusal(
         geometry,
         media.len(),
         copy.len(),
-        log | noted | listed,
-        short,
+        false,
+        false,
+        5,
         rows,
         kinds,
         firsts,
@@ -95,13 +87,23 @@ pub fn run_at(
         pool,
     );
     if refused != 0 {
-        return RunAt::NotRun(refused);
+        return Ran::NotRun(refused);
     }
     let told = armed_runs::told_by(head, armed);
     let carries = head.carries_on;
-    let ran = writer::run_script(
+    let begun = unstarted();
+    device::fill_erased(media);
+    let mut unasked = [0u32; 1];
+    let mut digests = [0u64; 1024];
+    let mut changed = [0u8; 1024];
+    let mut answered = [0u8; 1024];
+    let mut marks = [0u8; 512];
+    let mut named = [0u32; 512];
+    let mut places = [0u64; 512];
+    let written = runner::run_rows(
         told,
         carries,
+        begun,
         rows,
         kinds,
         firsts,
@@ -109,23 +111,22 @@ pub fn run_at(
         thirds,
         starts,
         pool,
+        &mut unasked,
         media,
         copy,
         ops,
         spans,
         sizes,
-        digests,
-        changed,
-        answered,
-        marks,
-        named,
-        places,
+        &mut digests,
+        &mut changed,
+        &mut answered,
+        &mut marks,
+        &mut named,
+        &mut places,
     );
-    let Ran::Done(counters, failed) = ran else {
-        // Never taken: what refuses was tested above.
-        return RunAt::NotRun(13);
-    };
-    let derived = ledger::ledger(
+    let counters = written.counters;
+    let failed = written.failed;
+    let derived = runner::derive(
         told,
         counters,
         media,
@@ -133,15 +134,15 @@ pub fn run_at(
         ops,
         spans,
         sizes,
-        digests,
-        changed,
-        answered,
-        marks,
-        named,
-        places,
+        &digests,
+        &changed,
+        &answered,
+        &marks,
+        &named,
+        &places,
         ids,
         states,
         torn,
     );
-    ended(counters, derived)
+    ended(counters, failed, derived)
 }

@@ -17,9 +17,10 @@ use Rattle.oracle.specs.Legal.{Legal, AbsentOrOne}
 use Rattle.oracle.proofs.Acceptance.{accepts-exactly}
 use Rattle.session.specs.declared.Told.{Told}
 use Rattle.session.specs.declared.Armed.{Armed}
+use Rattle.session.specs.Armed.{cutBy}
 use Rattle.plain.specs.Plain.{Call, Run, plain}
 use Rattle.plain.specs.Ledger.{ledger, begun}
-use Rattle.plain.specs.Claims.{CutOnce, cutBy, OnlyTheLast, FirstOfCommitted, AcceptsExactly}
+use Rattle.plain.specs.Claims.{CutOnce, OnlyTheLast, FirstOfCommitted, AcceptsExactly}
 use Rattle.plain.proofs.Flags.{first-true}
 use Rattle.plain.proofs.Only.{only-the-last}
 use Rattle.plain.proofs.Histories.{picked-twice, picked-distinct, reaches, holds-all, stays-short, holds-none, TornOrAcknowledged, picked-either, acknowledged-untorn}

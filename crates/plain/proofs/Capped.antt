@@ -14,10 +14,11 @@ use Rattle.basics.proofs.Tests.{le-or-gt}
 use Rattle.inject.specs.declared.Injection.{Injection}
 use Rattle.session.specs.declared.Told.{Told}
 use Rattle.session.specs.declared.Armed.the-variants.{Nothing, At}
+use Rattle.session.specs.Armed.{cutBy}
 use Rattle.records.specs.Records.{Label, begin, end, RecordMark, nextPlace, recordAt, recordsTo, entryBy, ledgerBy}
 use Rattle.plain.specs.Plain.{Call, Op, Run, asCut, plain}
 use Rattle.plain.specs.Ledger.{asked, ledger}
-use Rattle.plain.specs.Claims.{CutOnce, cutBy, cappedAt, Truncated}
+use Rattle.plain.specs.Claims.{CutOnce, cappedAt, Truncated}
 use Rattle.plain.proofs.Truncation.{cut-length, cut-truncates}
 
 -- a part of a list of n, its ends moved down to n: the same part, and the same behind it

@@ -24,6 +24,7 @@ use Rattle.model.specs.declared.Durability.the-variants.{Attempted, PossiblyDur
 use Rattle.model.specs.Ledger.{Entry, isCommitted, picked}
 use Rattle.session.specs.declared.Armed.{Armed}
 use Rattle.session.specs.declared.Armed.the-variants.{Nothing, At}
+use Rattle.session.specs.Armed.{toldWith}
 use Rattle.session.specs.Tests.{operationTest, markTest}
 use Rattle.session_program.specs.Program.{spanNumber, bitTest}
 use Rattle.records.specs.Records.{begin, end, any, recordAt, recordsTo, behind, judged, entryBy, ledgerBy}
@@ -33,7 +34,7 @@ use Rattle.plain.specs.Claims.{anyAcknowledged, lastAcknowledged, untorn
 
 -- a run on a new device of four cells, one block with units of one
 abbrev runOf : Armed → List Call → Run
-runOf a xs = plain (record { geometry = geometryOf 4 4 1 1; bits = Absorbed; armed = a }) (newMedia 4) xs
+runOf a xs = plain (toldWith (geometryOf 4 4 1 1) Absorbed a) (newMedia 4) xs
 
 abbrev at : ℕ → Progress → Interruption → Armed
 at index progress interruption = At (record { op = index; progress = progress; interruption = interruption })

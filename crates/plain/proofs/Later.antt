@@ -14,11 +14,12 @@ use Rattle.storage.specs.declared.Geometry.{Geometry}
 use Rattle.inject.specs.declared.Injection.{Injection}
 use Rattle.session.specs.declared.Told.{Told}
 use Rattle.session.specs.declared.Armed.the-variants.{Nothing, At}
+use Rattle.session.specs.Armed.{cutBy}
 use Rattle.model.specs.Ledger.{Entry, isAcknowledged}
 use Rattle.records.specs.Records.{Label, begin, end, RecordMark, any, nextPlace, recordAt, recordsTo, judged, entryBy, ledgerBy}
 use Rattle.plain.specs.Plain.{barrier, Call, Op, Run, wholly, asCut, plain}
 use Rattle.plain.specs.Ledger.{isWrite, asked, records, ledger, inOrder}
-use Rattle.plain.specs.Claims.{CutOnce, cutBy, AllInOrder, Keeps}
+use Rattle.plain.specs.Claims.{CutOnce, AllInOrder, Keeps}
 use Rattle.plain.proofs.Flags.{first-true, second-true}
 use Rattle.plain.proofs.Truncation.{cut-unmet}
 use Rattle.plain.proofs.Tidy.{All, all-last, all-take, all-drop, all-get, Whole, uncut-whole, Bare, bare-cut, all-bare}

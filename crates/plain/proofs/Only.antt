@@ -15,11 +15,12 @@ use Rattle.inject.specs.declared.Injection.{Injection}
 use Rattle.session.specs.declared.Told.{Told}
 use Rattle.session.specs.declared.Armed.{Armed}
 use Rattle.session.specs.declared.Armed.the-variants.{Nothing, At}
+use Rattle.session.specs.Armed.{cutBy}
 use Rattle.model.specs.Ledger.{Entry, isCommitted, picked}
 use Rattle.records.specs.Records.{Label, begin, end, RecordMark, any, nextPlace, recordAt, recordsTo, behind, judged, entryBy, ledgerBy}
 use Rattle.plain.specs.Plain.{Call, barrier, Op, Run, wholly, plain}
 use Rattle.plain.specs.Ledger.{isWrite, orders, changed, withheld, asked, ledger}
-use Rattle.plain.specs.Claims.{CutOnce, cutBy, Truncated, OnlyTheLast}
+use Rattle.plain.specs.Claims.{CutOnce, Truncated, OnlyTheLast}
 use Rattle.plain.proofs.Truncation.{cut-length, cut-truncates, cut-unmet}
 use Rattle.plain.proofs.Tidy.{All, all-take, From, Rising, tidy, Whole, uncut-whole}
 

@@ -16,10 +16,10 @@ use Rattle.landing.specs.declared.Stop.{Stop}
 use Rattle.landing.specs.declared.Stop.the-variants.{Running}
 use Rattle.session.specs.declared.Told.{Told}
 use Rattle.session.specs.declared.Armed.the-variants.{Nothing}
+use Rattle.session.specs.Armed.{cutBy}
 use Rattle.records.specs.Records.{Label, RecordMark}
 use Rattle.plain.specs.Plain.{Act, program, erase, barrier, Call, Op, Run, wholly, asCut, endingBy, taken, takenBy, marked, plain}
 use Rattle.plain.specs.Ledger.{isWrite}
-use Rattle.plain.specs.Claims.{cutBy}
 use Rattle.plain.proofs.Runs.{taken-either, plain-keeps}
 use Rattle.plain.proofs.Truncation.{Within, within-more, within-last}
 

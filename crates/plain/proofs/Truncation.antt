@@ -22,10 +22,11 @@ use Rattle.landing.specs.Ending.{endingOf, stopNumber}
 use Rattle.session.specs.declared.Told.{Told}
 use Rattle.session.specs.declared.Armed.the-variants.{Nothing, At}
 use Rattle.session.specs.Tests.{markTest}
+use Rattle.session.specs.Armed.{cutBy}
 use Rattle.session_program.specs.Program.{spanNumber}
 use Rattle.records.specs.Records.{Label, RecordMark}
 use Rattle.plain.specs.Plain.{Act, program, erase, barrier, Call, act, mark, Op, Run, actTest, refusal, markRefusal, wholly, endingBy, refused, taken, takenBy, marked, step, run, unrun, plain}
-use Rattle.plain.specs.Claims.{CutOnce, cutBy, cappedAt, Truncated}
+use Rattle.plain.specs.Claims.{CutOnce, cappedAt, Truncated}
 
 -- ---- marks within the operations
 

@@ -18,6 +18,7 @@ use Rattle.oracle.specs.Legal.{AbsentOrOne}
 use Rattle.session.specs.declared.Told.{Told}
 use Rattle.session.specs.declared.Armed.{Armed}
 use Rattle.session.specs.declared.Armed.the-variants.{Nothing, At}
+use Rattle.session.specs.Armed.{cutBy}
 use Rattle.records.specs.Records.{RecordMark, Kept}
 use Rattle.plain.specs.Plain.{Call, Op, Run, asCut, plain}
 use Rattle.plain.specs.Ledger.{records, ledger, begun, inOrder}
@@ -26,10 +27,6 @@ use Rattle.plain.specs.Ledger.{records, ledger, begun, inOrder}
 abbrev pub CutOnce : Armed → Type 0
 CutOnce Nothing = Unit {0}
 CutOnce (At j) = j .interruption ≡ Failure → ⊥
-
--- the same told with another cut, or none
-abbrev pub cutBy : Told → Armed → Told
-cutBy t a = record { geometry = t .geometry; bits = t .bits; armed = a }
 
 -- ---- the law that 2 to 4 follow from
 

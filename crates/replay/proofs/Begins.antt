@@ -8,11 +8,10 @@ use mathlib.Core.List.{List, [], _∷_, _++_}
 use Prim.Native.Nat.{ℕ, zero, suc, _+_}
 use native.Mathlib.Nat.{add-assoc, zero-add, add-zero}
 use native.Mathlib.Omega.{arith}
-use lib.ListN.{length, length-append}
+use lib.ListN.{length, take, length-append}
 use lib.Dec.{eqb, leb, ltb}
 use borrow.Author.Tests.{le-leb, lt-leb, lt-ltb, le-ltb}
 use Rattle.basics.specs.Tests.{flag, unless}
-use Rattle.basics.specs.Parts.{part}
 use Rattle.basics.proofs.Tests.{le-or-gt}
 use Rattle.storage.specs.declared.Geometry.{Geometry}
 use Rattle.model.specs.Ledger.{Entry, ids}
@@ -25,9 +24,13 @@ use Rattle.records.specs.Records.{Label, begin, end, RecordMark}
 use Rattle.plain.specs.Plain.{Act, Call, act, mark, Op, Run, refusal, markRefusal, wholly, takenBy, refused, step, run, unrun, plain}
 use Rattle.plain.specs.Ledger.{idOf, begun, ledger}
 use Rattle.plain.proofs.Entries.{ledger-ids}
-use Rattle.call_rows.specs.Calls.{callBy, callsOf, Calls, listOf}
-use Rattle.call_rows.specs.Tests.{takes, beginsFrom}
-use Rattle.replay.specs.Scans.{Even}
+use Rattle.script.specs.Calls as line
+use Rattle.script.specs.Columns.{Columns}
+use Rattle.script.specs.Held.{callFrom, rowsIn, callsIn}
+use Rattle.rows.specs.Rows.{takes, beginsFrom}
+use Rattle.rows.proofs.Numbers.{RowsEven}
+use Rattle.steps.specs.Calls.{plainCalls}
+use Rattle.replay.specs.Replay.{listOf}
 
 isBegin : Label → Bool
 isBegin (begin id) = true
@@ -110,29 +113,30 @@ run-begins t r (mark l ∷ xs) =
 
 -- ---- calls in columns
 
--- by the code of a call
-one-begins : (m k id offset len : ℕ) (bytes : List ℕ) (xs : List Call) → leb k 4 ≡ true
-    → begins m (callBy k id offset len bytes ∷ xs) ≡ flag (takes m k && eqb k 3) + begins (m + flag (takes m k)) xs
-unfolding begins callBy isBegin
-one-begins m zero id offset len bytes xs h = sym (zero-add _ ∙ ap (λ (n : ℕ). begins n xs) (add-zero m))
-one-begins m (suc zero) id offset len bytes xs h = sym (zero-add _ ∙ ap (λ (n : ℕ). begins n xs) (add-zero m))
-one-begins m (suc (suc zero)) id offset len bytes xs h = sym (zero-add _ ∙ ap (λ (n : ℕ). begins n xs) (add-zero m))
-one-begins m (suc (suc (suc zero))) id offset len bytes xs h = refl
-one-begins m (suc (suc (suc (suc zero)))) id offset len bytes xs h = refl
-one-begins m (suc (suc (suc (suc (suc k))))) id offset len bytes xs h = absurd (true≢false (sym h ∙ lt-leb (suc (suc (suc (suc (suc k))))) 4 (omega arith)))
+-- by the kind of a row
+one-begins : (m j a b c s : ℕ) (pool : List ℕ) (xs : List line.Call) → leb j 4 ≡ true
+    → begins m (plainCalls (callFrom j a b c s pool ∷ xs)) ≡ flag (takes m j && eqb j 3) + begins (m + flag (takes m j)) (plainCalls xs)
+unfolding begins plainCalls isBegin
+one-begins m zero a b c s pool xs h = sym (zero-add _ ∙ ap (λ (n : ℕ). begins n (plainCalls xs)) (add-zero m))
+one-begins m (suc zero) a b c s pool xs h = sym (zero-add _ ∙ ap (λ (n : ℕ). begins n (plainCalls xs)) (add-zero m))
+one-begins m (suc (suc zero)) a b c s pool xs h = sym (zero-add _ ∙ ap (λ (n : ℕ). begins n (plainCalls xs)) (add-zero m))
+one-begins m (suc (suc (suc zero))) a b c s pool xs h = refl
+one-begins m (suc (suc (suc (suc zero)))) a b c s pool xs h = refl
+one-begins m (suc (suc (suc (suc (suc j))))) a b c s pool xs h = absurd (true≢false (sym h ∙ lt-leb (suc (suc (suc (suc (suc j))))) 4 (omega arith)))
 
-codes-begins : (m : ℕ) (ks is os ls ss pool : List ℕ) → length is ≡ length ks → length os ≡ length ks → length ls ≡ length ks → length ss ≡ length ks
-    → allUpTo 4 ks ≡ true → begins m (callsOf ks is os ls ss pool) ≡ beginsFrom m ks
-unfolding callsOf begins beginsFrom allUpTo
-codes-begins m [] is os ls ss pool a b d e h = refl
-codes-begins m (k ∷ ks) [] os ls ss pool a b d e h = absurd (omega arith)
-codes-begins m (k ∷ ks) (i ∷ is) [] ls ss pool a b d e h = absurd (omega arith)
-codes-begins m (k ∷ ks) (i ∷ is) (o ∷ os) [] ss pool a b d e h = absurd (omega arith)
-codes-begins m (k ∷ ks) (i ∷ is) (o ∷ os) (l ∷ ls) [] pool a b d e h = absurd (omega arith)
-codes-begins m (k ∷ ks) (i ∷ is) (o ∷ os) (l ∷ ls) (s ∷ ss) pool a b d e h =
-    one-begins m k i o l (part pool s l) (callsOf ks is os ls ss pool) (and-left (leb k 4) (allUpTo 4 ks) h)
-    ∙ ap (λ (n : ℕ). flag (takes m k && eqb k 3) + n)
-    (codes-begins (m + flag (takes m k)) ks is os ls ss pool (omega arith) (omega arith) (omega arith) (omega arith) (and-right (leb k 4) (allUpTo 4 ks) h))
+codes-begins : (m n : ℕ) (ks xs bs cs ss pool : List ℕ) → length xs ≡ length ks → length bs ≡ length ks → length cs ≡ length ks → length ss ≡ length ks
+    → allUpTo 4 (take n ks) ≡ true → begins m (plainCalls (rowsIn n ks xs bs cs ss pool)) ≡ beginsFrom m (take n ks)
+unfolding rowsIn plainCalls begins beginsFrom allUpTo
+codes-begins m zero ks xs bs cs ss pool p q r o h = refl
+codes-begins m (suc n) [] xs bs cs ss pool p q r o h = refl
+codes-begins m (suc n) (k ∷ ks) [] bs cs ss pool p q r o h = absurd (omega arith)
+codes-begins m (suc n) (k ∷ ks) (a ∷ xs) [] cs ss pool p q r o h = absurd (omega arith)
+codes-begins m (suc n) (k ∷ ks) (a ∷ xs) (b ∷ bs) [] ss pool p q r o h = absurd (omega arith)
+codes-begins m (suc n) (k ∷ ks) (a ∷ xs) (b ∷ bs) (c ∷ cs) [] pool p q r o h = absurd (omega arith)
+codes-begins m (suc n) (k ∷ ks) (a ∷ xs) (b ∷ bs) (c ∷ cs) (s ∷ ss) pool p q r o h =
+    one-begins m k a b c s pool (rowsIn n ks xs bs cs ss pool) (and-left (leb k 4) (allUpTo 4 (take n ks)) h)
+    ∙ ap (λ (i : ℕ). flag (takes m k && eqb k 3) + i)
+    (codes-begins (m + flag (takes m k)) n ks xs bs cs ss pool (omega arith) (omega arith) (omega arith) (omega arith) (and-right (leb k 4) (allUpTo 4 (take n ks)) h))
   where
     and-left : (x y : Bool) → (x && y) ≡ true → x ≡ true
     and-left true y q = refl
@@ -147,8 +151,9 @@ unfolding ids
 many-ids [] = refl
 many-ids (e ∷ es) = ap suc (many-ids es)
 
-pub ledger-many : (t : Told) (media : List ℕ) (c : Calls) → Even c → allUpTo 4 (c .kinds) ≡ true → length (ledger (plain t media (listOf c))) ≡ beginsFrom 0 (c .kinds)
+pub ledger-many : (t : Told) (media : List ℕ) (rows : ℕ) (k : Columns) → RowsEven k → allUpTo 4 (take rows (k .kinds)) ≡ true
+    → length (ledger (plain t media (listOf rows k))) ≡ beginsFrom 0 (take rows (k .kinds))
 unfolding plain begun
-ledger-many t media c e h =
-    many-ids (ledger (plain t media (listOf c))) ∙ ap length (ledger-ids (plain t media (listOf c))) ∙ run-begins t (unrun media) (listOf c) ∙ zero-add _
-    ∙ codes-begins 0 (c .kinds) (c .ids) (c .offsets) (c .lens) (c .starts) (c .pool) (e .ids-even) (e .offsets-even) (e .lens-even) (e .starts-even) h
+ledger-many t media rows k e h =
+    many-ids (ledger (plain t media (listOf rows k))) ∙ ap length (ledger-ids (plain t media (listOf rows k))) ∙ run-begins t (unrun media) (listOf rows k) ∙ zero-add _
+    ∙ codes-begins 0 rows (k .kinds) (k .firsts) (k .seconds) (k .thirds) (k .starts) (k .pool) (e .0) (e .1) (e .2) (e .3) h

@@ -1,5 +1,3 @@
--- Laws of a list of calls in columns.
-pub mod One
-pub mod Turns
+-- Laws of a list of calls run.
 pub mod Begins
 pub mod Whole

@@ -1,19 +1,19 @@
 -- The ways that `replay` goes: refused, or run.
---     replay-refuses                      a refusal leaves all that was lent
---     ready-to-run                        what the loop over the calls asks
---     never-refused                       a start is not refused where `replay` is not
---     replay-runs                         what is left is the plain run
+--     replay-refuses     a refusal leaves all that was lent
+--     never-refused      a start is not refused where `replay` is not
+--     replay-runs        what is left is the plain run
 -- Assumes nothing.
 use mathlib.Core.Path.{_≡_, refl, sym, ap, _∙_}
 use mathlib.Core.Bool.{Bool, true, false, _||_}
-use mathlib.Core.List.{List, [], _∷_, _++_}
-use Prim.Native.Nat.{ℕ, zero, suc}
+use mathlib.Core.List.{List, [], _∷_, _++_, map}
+use Prim.Native.Nat.{ℕ, zero, suc, _≤_}
+use native.Mathlib.Nat.{le-trans}
 use native.Mathlib.Omega.{arith}
-use lib.ListN.{length, drop}
+use lib.ListN.{length, take, drop}
 use lib.Dec.{leb, ltb}
-use borrow.Author.Tests.{ne-eqb, ltb-false}
+use borrow.Author.Tests.{ne-eqb, ltb-false, leb-true, le-leb}
 use Rattle.basics.specs.Tests.{unless, refuseIf, firstOf}
-use Rattle.basics.proofs.Tests.{unless-zero, refuse-zero, firstOf-stop, firstOf-one, firstOf-zero}
+use Rattle.basics.proofs.Tests.{firstOf-stop}
 use Rattle.device.specs.Media.{newMedia}
 use Rattle.device.proofs.Pairs.{false-left, false-right}
 use Rattle.model.specs.Columns.{allUpTo}
@@ -23,154 +23,158 @@ use Rattle.session.specs.declared.Started.{Started}
 use Rattle.session.specs.declared.Started.the-variants
 use Rattle.session.specs.declared.Started.the-variants.{NotStarted}
 use Rattle.session.specs.Log.{Log, Marks}
-use Rattle.session.specs.Tests.{logUnevenOf, marksUnevenOf, logShort, marksShort, startNumber, startTest}
+use Rattle.session.specs.Tests.{startNumber, startTest}
 use Rattle.session.specs.Start.{fresh, Opened, opened, started}
 use Rattle.ledger.specs.declared.Derived.{Derived}
 use Rattle.ledger.specs.declared.Derived.the-variants.{Entries, NotDerived}
-use Rattle.ledger.specs.Ledger.{Entered, entriesUneven, entered, ledgered, ledgeredBy, ledgerCall}
+use Rattle.ledger.specs.Ledger.{Entered, entered, ledgered, ledgeredBy, ledgerCall}
 use Rattle.plain.specs.Plain.{Run}
 use Rattle.plain.specs.Ledger.{ledger}
-use Rattle.threaded.specs.Threaded.{Session, Fresh, Threaded, threaded, sessionLedgered}
+use Rattle.threaded.specs.Threaded.{Session, Threaded, threaded, sessionLedgered}
 use Rattle.threaded.specs.Claim.{SameAsPlain}
 use Rattle.threaded.proofs.Same.{same, start-fresh}
-use Rattle.rows.specs.Tests.{anyOutside, lengthsNumber}
-use Rattle.rows.proofs.Lengths.{Passed, passed, five-even}
-use Rattle.call_rows.specs.Calls.{Calls, listOf}
-use Rattle.call_rows.specs.Tests.{beginsFrom, callsUnevenOf, contentTest, callsNumber}
-use Rattle.replay.specs.Replay.{Lent, lent, runOf, othersUneven, unevenOf, shortOf, replayNumber, opening, leaves, replayed, replayCall}
-use Rattle.replay.specs.Scans.{sessionOf, Even, Ready, Ran, ran, ranBy}
+use Rattle.script.specs.Columns.{Columns}
+use Rattle.script.specs.Held.{callsIn}
+use Rattle.rows.specs.Rows.{rowsUnevenOf, lengthsNumber, contentsNumber, rowsNumber, beginsFrom}
+use Rattle.rows.proofs.Numbers.{Even, evens, lengths-known, kinds-known, long-enough}
+use Rattle.steps.specs.Step.{sessionOf, Task, call}
+use Rattle.runner.specs.declared.Ended.{Ended}
+use Rattle.runner.specs.Run.{tasksIn, Outcome, ranRows, Leaves, leftOf, leaves}
+use Rattle.runner.proofs.Lines.{tasks-calls}
+use Rattle.runner.proofs.Listed.{carriedOn, listed, no-range, few-answers, answers-fit}
+use Rattle.replay.specs.Replay.{Lent, lent, listOf, runOf, unevenOf, shortOf, numberFor, replayNumber, opening, leaves as leavesAs, replayed, replayCall}
+use Rattle.replay.specs.Sized.{Sized}
 use Rattle.replay.proofs.Begins.{ledger-many}
 
-module _ (t : Told) (c : Calls) (x : Lent) where
+module _ (t : Told) (rows : ℕ) (k : Columns) (x : Lent) where
+  abbrev run : Run
+  run = runOf t rows k x
+
   abbrev lengths : ℕ
-  lengths = lengthsNumber (t .geometry) (length (x .media)) (length (x .copy)) (unevenOf c x)
+  lengths = lengthsNumber (t .geometry) (length (x .media)) (length (x .copy)) (unevenOf x || rowsUnevenOf k)
 
-  module _ (none : lengths ≡ 0) where
-    length-passes : Passed (t .geometry) (length (x .media)) (length (x .copy)) (unevenOf c x)
-    length-passes = passed (t .geometry) (length (x .media)) (length (x .copy)) (unevenOf c x) none
+  -- the kinds tell how many entries there will be
+  abbrev begun : ℕ
+  begun = beginsFrom 0 (take rows (k .kinds))
 
-    others-even : othersUneven x ≡ false
-    others-even = false-left (othersUneven x) (callsUnevenOf c) (length-passes .all-even)
+  many-are : lengths ≡ 0 → (b : Bool) → allUpTo 4 (take rows (k .kinds)) ≡ b
+      → contentsNumber 4 rows k (shortOf rows (length (ledger run)) x) ≡ contentsNumber 4 rows k (shortOf rows begun x)
+  unfolding contentsNumber firstOf unless
+  many-are z false e = rw e
+  many-are z true e =
+      let even = evens (t .geometry) (length (x .media)) (length (x .copy)) (unevenOf x) false 4 rows k z .columns-even in
+      ap (λ (n : ℕ). contentsNumber 4 rows k (shortOf rows n x)) (ledger-many t (newMedia (length (x .media))) rows k even e)
 
-    calls-are-even : Even c
-    calls-are-even =
-        let r = five-even (length (c .kinds)) (length (c .ids)) (length (c .offsets)) (length (c .lens)) (length (c .starts)) (false-right (othersUneven x) (callsUnevenOf c) (length-passes .all-even)) in
-        record { ids-even = r .0; offsets-even = r .1; lens-even = r .2; starts-even = r .3 }
-
-    -- the codes tell how many entries there will be
-    many-are : (b : Bool) → allUpTo 4 (c .kinds) ≡ b
-        → contentTest c (shortOf c x) (length (ledger (runOf t c x))) (length (x .entries .ids)) ≡ contentTest c (shortOf c x) (beginsFrom 0 (c .kinds)) (length (x .entries .ids))
-    unfolding contentTest firstOf unless
-    many-are false k = rw k
-    many-are true k = ap (λ (n : ℕ). contentTest c (shortOf c x) n (length (x .entries .ids))) (ledger-many t (newMedia (length (x .media))) c calls-are-even k)
-
-  same-number : (n : ℕ) → lengths ≡ n
-      → replayNumber t c x ≡ callsNumber (t .geometry) (length (x .media)) (length (x .copy)) (othersUneven x) (shortOf c x) (length (x .entries .ids)) c
-  unfolding callsNumber
-  same-number zero z = ap (λ (k : ℕ). firstOf (lengths ∷ k ∷ [])) (many-are z (allUpTo 4 (c .kinds)) refl)
+  same-number : (n : ℕ) → lengths ≡ n → replayNumber t rows k x ≡ numberFor t rows begun k x
+  unfolding rowsNumber
+  same-number zero z = ap (λ (n : ℕ). firstOf (lengths ∷ n ∷ [])) (many-are z (allUpTo 4 (take rows (k .kinds))) refl)
   same-number (suc n) z = firstOf-stop lengths _ (λ w. omega arith) ∙ sym (firstOf-stop lengths _ (λ w. omega arith))
 
-  module _ (log noted : Bool) (refused : ℕ) (p : log ≡ logUnevenOf (x .log)) (q : noted ≡ marksUnevenOf (x .marks))
-      (e : refused ≡ callsNumber (t .geometry) (length (x .media)) (length (x .copy)) (log || noted || entriesUneven (length (x .entries .ids)) (length (x .entries .states)) (length (x .entries .torn))) (shortOf c x) (length (x .entries .ids)) c) where
-    number-is : replayNumber t c x ≡ refused
-    number-is =
-        same-number _ refl
-        ∙ sym (e ∙ λ i. callsNumber (t .geometry) (length (x .media)) (length (x .copy)) (p i || q i || entriesUneven (length (x .entries .ids)) (length (x .entries .states)) (length (x .entries .torn))) (shortOf c x) (length (x .entries .ids)) c)
+  module _ (begins refused : ℕ) (m : begins ≡ begun) (e : refused ≡ numberFor t rows begins k x) where
+    number-is : replayNumber t rows k x ≡ refused
+    number-is = same-number _ refl ∙ sym (e ∙ ap (λ (n : ℕ). numberFor t rows n k x) m)
 
-    pub replay-refuses : (refused ≡ 0 → ⊥) → replayed (NotDerived refused) x ≡ replayCall t c x
+    pub replay-refuses : (refused ≡ 0 → ⊥) → replayed (NotDerived refused) x ≡ replayCall t rows k x
     unfolding replayCall
     replay-refuses h = rw (number-is, ne-eqb refused 0 h)
 
     module _ (free : refused ≡ 0) where
-      both-pass : (lengths ≡ 0) × (firstOf (contentTest c (shortOf c x) (length (ledger (runOf t c x))) (length (x .entries .ids)) ∷ []) ≡ 0)
-      both-pass = firstOf-zero _ _ (number-is ∙ free)
+      passes : replayNumber t rows k x ≡ 0
+      passes = number-is ∙ free
 
-      abbrev outside : Bool
-      outside = anyOutside 0 (length (c .pool)) (c .kinds) (c .lens) (c .starts)
+      even : Even (t .geometry) (length (x .media)) (length (x .copy)) (unevenOf x) (shortOf rows (length (ledger run)) x) 4 rows k
+      even = lengths-known (t .geometry) (length (x .media)) (length (x .copy)) (unevenOf x) (shortOf rows (length (ledger run)) x) 4 rows k passes
 
-      content-passes : (allUpTo 4 (c .kinds) ≡ true) × ((shortOf c x || outside) ≡ false) × (leb (length (ledger (runOf t c x))) (length (x .entries .ids)) ≡ true)
-      unfolding contentTest
-      content-passes =
-          let known = unless (allUpTo 4 (c .kinds)) 12 in
-          let short = refuseIf (shortOf c x || outside) 13 in
-          let room = unless (leb (length (ledger (runOf t c x))) (length (x .entries .ids))) 13 in
-          let one = firstOf-zero known (short ∷ room ∷ []) (sym (firstOf-one _) ∙ both-pass .1) in
-          let two = firstOf-zero short (room ∷ []) (one .1) in
-          let three = firstOf-zero room [] (two .1) in
-          (unless-zero (allUpTo 4 (c .kinds)) 11 (one .0), refuse-zero (shortOf c x || outside) 12 (two .0), unless-zero (leb (length (ledger (runOf t c x))) (length (x .entries .ids))) 12 (three .0))
+      known : allUpTo 4 (take rows (k .kinds)) ≡ true
+      known = kinds-known (t .geometry) (length (x .media)) (length (x .copy)) (unevenOf x) (shortOf rows (length (ledger run)) x) 4 rows k passes
 
-      not-short : shortOf c x ≡ false
-      not-short = false-left (shortOf c x) outside (content-passes .1)
+      long : shortOf rows (length (ledger run)) x ≡ false
+      long = long-enough (t .geometry) (length (x .media)) (length (x .copy)) (unevenOf x) (shortOf rows (length (ledger run)) x) 4 rows k passes
 
-      pub ready-to-run : Ready c (x .answers)
-      ready-to-run = record {
-        even = calls-are-even (both-pass .0);
-        inside = false-right (shortOf c x) outside (content-passes .1);
-        room = ltb-false (length (x .answers)) (length (c .kinds)) (false-right (logShort (length (x .log .kinds)) || marksShort (length (x .marks .codes))) (ltb (length (x .answers)) (length (c .kinds))) not-short);
-      }
+      room : rows ≤ length (x .answers)
+      room = ltb-false (length (x .answers)) rows (false-left (ltb (length (x .answers)) rows) (ltb (length (x .entries .ids)) (length (ledger run))) long)
 
-      -- the tests of a start pass
-      start-passes : startTest (t .geometry) (length (x .media)) (length (x .copy)) (x .log) (x .marks) ≡ 0
+      entries-fit : length (ledger run) ≤ length (x .entries .ids)
+      entries-fit =
+          ltb-false (length (x .entries .ids)) (length (ledger run))
+          (false-right (ltb (length (x .answers)) rows) (ltb (length (x .entries .ids)) (length (ledger run))) long)
+
+      -- ---- the start
+
+      start-passes : Sized (x .log) (x .marks) → startTest (t .geometry) (length (x .media)) (length (x .copy)) (x .log) (x .marks) ≡ 0
       unfolding startNumber refuseIf firstOf
-      start-passes =
-          let log = logUnevenOf (x .log) in
-          let marks = marksUnevenOf (x .marks) in
-          let entries = entriesUneven (length (x .entries .ids)) (length (x .entries .states)) (length (x .entries .torn)) in
-          let two : (log || marks) ≡ false = false-left (log || marks) entries (others-even (both-pass .0)) in
-          let short : (logShort (length (x .log .kinds)) || marksShort (length (x .marks .codes))) ≡ false =
-          false-left (logShort (length (x .log .kinds)) || marksShort (length (x .marks .codes))) (ltb (length (x .answers)) (length (c .kinds))) not-short in
-          rw (length-passes (both-pass .0) .geometry-passes, length-passes (both-pass .0) .sizes-pass, two, short)
+      start-passes z =
+          rw (
+            even .geometry-passes,
+            even .sizes-pass,
+            z .kinds-are,
+            z .offsets-are,
+            z .lens-are,
+            z .digests-are,
+            z .changed-are,
+            z .answered-are,
+            z .codes-are,
+            z .ids-are,
+            z .places-are,
+          )
 
       abbrev began : Opened
       began = started t (x .media) (length (x .copy)) (x .log) (x .marks)
 
-      start-is : began ≡ opened (the-variants.Fresh fresh) (newMedia (length (x .media)))
-      start-is = start-fresh t (x .media) (x .copy) (x .log) (x .marks) start-passes .0
+      module _ (z : Sized (x .log) (x .marks)) (reply : Started) (media₁ : List ℕ) (o : opened reply media₁ ≡ began) where
+        start-is : opened reply media₁ ≡ opened (the-variants.Fresh fresh) (newMedia (length (x .media)))
+        start-is = o ∙ start-fresh t (x .media) (x .copy) (x .log) (x .marks) (start-passes z) .0
 
-      pub never-refused : (reply : Started) (media : List ℕ) (n : ℕ) → opened reply media ≡ began → reply ≡ NotStarted n → ⊥
-      never-refused reply media n o r =
-          let z : NotStarted n ≡ the-variants.Fresh fresh = sym r ∙ ap (λ (y : Opened). y .reply) (o ∙ start-is) in
-          let v : _≡_ {A = ℕ} 0 1 = cc in
-          omega arith
+        pub never-refused : (n : ℕ) → reply ≡ NotStarted n → ⊥
+        never-refused n r =
+            let w : NotStarted n ≡ the-variants.Fresh fresh = sym r ∙ ap (λ (y : Opened). y .reply) start-is in
+            let v : _≡_ {A = ℕ} 0 1 = cc in
+            omega arith
 
-      -- what the run leaves
-      abbrev all : Threaded
-      all = threaded t (opening x) (listOf c)
+        -- ---- the run
 
-      plain-same : SameAsPlain t (opening x) (listOf c)
-      plain-same = same t (opening x) (listOf c) (start-fresh t (x .media) (x .copy) (x .log) (x .marks) start-passes .1)
+        abbrev all : Threaded
+        all = threaded t (opening x) (listOf rows k)
 
-      entries-pass : firstOf (refuseIf (entriesUneven (length (x .entries .ids)) (length (x .entries .states)) (length (x .entries .torn))) 12 ∷ unless (leb (length (ledger (runOf t c x))) (length (x .entries .ids))) 13 ∷ []) ≡ 0
-      unfolding firstOf refuseIf unless
-      entries-pass =
-          let log = logUnevenOf (x .log) in
-          let marks = marksUnevenOf (x .marks) in
-          rw (false-right (log || marks) (entriesUneven (length (x .entries .ids)) (length (x .entries .states)) (length (x .entries .torn))) (others-even (both-pass .0)), content-passes .2)
+        plain-same : SameAsPlain t (opening x) (listOf rows k)
+        plain-same = same t (opening x) (listOf rows k) (start-fresh t (x .media) (x .copy) (x .log) (x .marks) (start-passes z) .1)
 
-      replay-is : replayCall t c x ≡ replayed (Entries (length (ledger (runOf t c x)))) (leaves (runOf t c x) (all .session) x)
-      unfolding replayCall
-      replay-is = rw (number-is, free)
+        entries-pass : firstOf (refuseIf (unevenOf x) 12 ∷ unless (leb (length (ledger run)) (length (x .entries .ids))) 13 ∷ []) ≡ 0
+        unfolding firstOf refuseIf unless
+        entries-pass = rw (even .others, le-leb (length (ledger run)) (length (x .entries .ids)) entries-fit)
 
-      pub replay-runs : (reply : Started) (fr : Counters) (media₁ : List ℕ) → opened reply media₁ ≡ began → reply ≡ the-variants.Fresh fr
-          → (r : Counters) (media₂ copy₂ answers₂ : List ℕ) (l₂ : Log) (m₂ : Marks)
-          → ran (sessionOf r media₂ copy₂ l₂ m₂) answers₂ ≡ ranBy (threaded t (sessionOf fr media₁ (x .copy) (x .log) (x .marks)) (listOf c)) (x .answers)
-          → (d : Derived) (e₂ : Entered) → ledgered d e₂ ≡ ledgerCall t r media₂ copy₂ l₂ m₂ (x .entries)
-          → replayed d (lent answers₂ media₂ copy₂ l₂ m₂ e₂) ≡ replayCall t c x
-      replay-runs reply fr media₁ o r₀ r media₂ copy₂ answers₂ l₂ m₂ u d e₂ v =
-          let run : Run = runOf t c x in
-          let n : List ℕ = newMedia (length (x .media)) in
-          let a : fr ≡ fresh = fresh-inside fr (sym r₀ ∙ ap (λ (y : Opened). y .reply) (o ∙ start-is)) in
-          let b : media₁ ≡ n = ap (λ (y : Opened). y .media) (o ∙ start-is) in
-          let s : ran (sessionOf r media₂ copy₂ l₂ m₂) answers₂ ≡ ranBy all (x .answers) =
-          u ∙ λ i. ranBy (threaded t (sessionOf (a i) (b i) (x .copy) (x .log) (x .marks)) (listOf c)) (x .answers) in
-          let last : sessionOf r media₂ copy₂ l₂ m₂ ≡ all .session = ap (λ (y : Ran). y .session) s in
-          let answers : answers₂ ≡ run .answers ++ drop (length (run .answers)) (x .answers) =
-          ap (λ (y : Ran). y .answers) s ∙ ap (λ (k : List ℕ). k ++ drop (length k) (x .answers)) (plain-same .answers) in
-          let media : media₂ ≡ run .media = ap (λ (y : Session). y .media) last ∙ plain-same .media in
-          let entries : ledgered d e₂ ≡ ledgered (Entries (length (ledger run))) (entered (ledger run) (x .entries)) =
-          v ∙ ap (λ (y : Session). sessionLedgered t y (x .entries)) last ∙ plain-same .derived (x .entries)
-          ∙ ap (λ (k : ℕ). ledgeredBy k (ledger run) (x .entries)) entries-pass in
-          (λ i. replayed (entries i .reply) (lent (answers i) (media i) (last i .copy) (last i .log) (last i .marks) (entries i .columns))) ∙ sym replay-is
-        where
-          fresh-inside : (k : Counters) → the-variants.Fresh k ≡ the-variants.Fresh fresh → k ≡ fresh
-          fresh-inside k z = cc
+        replay-is : replayCall t rows k x ≡ replayed (Entries (length (ledger run))) (leavesAs run (all .session) x)
+        unfolding replayCall
+        replay-is = rw passes
+
+        -- the rows run are the calls
+        few : (kind : ℕ) → leb kind 4 ≡ true → leb kind 5 ≡ true
+        few kind h = let b = leb-true kind 4 h in le-leb kind 5 (omega arith)
+
+        rows-are : ranRows t true (opening x) (tasksIn rows k) ≡ carriedOn all
+        rows-are =
+            ap (ranRows t true (opening x)) (tasks-calls 4 rows k few known) ∙ listed t (opening x) (callsIn rows k) (no-range rows k known)
+
+        pub replay-runs : (fr : Counters) → reply ≡ the-variants.Fresh fr → (r : Ended) (media₂ copy₂ answers₂ : List ℕ) (l₂ : Log) (m₂ : Marks)
+            → leftOf r answers₂ media₂ copy₂ l₂ m₂ ≡ leaves (ranRows t true (sessionOf fr media₁ (x .copy) (x .log) (x .marks)) (tasksIn rows k)) (x .answers)
+            → (d : Derived) (e₂ : Entered) → ledgered d e₂ ≡ ledgerCall t (r .counters) media₂ copy₂ l₂ m₂ (x .entries)
+            → replayed d (lent answers₂ media₂ copy₂ l₂ m₂ e₂) ≡ replayCall t rows k x
+        replay-runs fr r₀ r media₂ copy₂ answers₂ l₂ m₂ u d e₂ v =
+            let a : fr ≡ fresh = fresh-inside fr (sym r₀ ∙ ap (λ (y : Opened). y .reply) start-is) in
+            let b : media₁ ≡ newMedia (length (x .media)) = ap (λ (y : Opened). y .media) start-is in
+            let s : leftOf r answers₂ media₂ copy₂ l₂ m₂ ≡ leaves (carriedOn all) (x .answers) =
+            u ∙ (λ i. leaves (ranRows t true (sessionOf (a i) (b i) (x .copy) (x .log) (x .marks)) (tasksIn rows k)) (x .answers))
+            ∙ ap (λ (w : Outcome). leaves w (x .answers)) rows-are in
+            let last : sessionOf (r .counters) media₂ copy₂ l₂ m₂ ≡ all .session = ap (λ (y : Leaves). y .session) s in
+            let fit : length (all .answers) ≤ length (x .answers) = le-trans (few-answers t (opening x) rows k) room in
+            let answers : answers₂ ≡ run .answers ++ drop (length (run .answers)) (x .answers) =
+            ap (λ (y : Leaves). y .answers) s ∙ answers-fit (carriedOn all) (x .answers) fit
+            ∙ ap (λ (w : List ℕ). w ++ drop (length w) (x .answers)) (plain-same .answers) in
+            let media : media₂ ≡ run .media = ap (λ (y : Session). y .media) last ∙ plain-same .media in
+            let entries : ledgered d e₂ ≡ ledgered (Entries (length (ledger run))) (entered (ledger run) (x .entries)) =
+            v ∙ ap (λ (y : Session). sessionLedgered t y (x .entries)) last ∙ plain-same .derived (x .entries)
+            ∙ ap (λ (n : ℕ). ledgeredBy n (ledger run) (x .entries)) entries-pass in
+            (λ i. replayed (entries i .reply) (lent (answers i) (media i) (last i .copy) (last i .log) (last i .marks) (entries i .columns))) ∙ sym replay-is
+          where
+            fresh-inside : (c : Counters) → the-variants.Fresh c ≡ the-variants.Fresh fresh → c ≡ fresh
+            fresh-inside c w = cc

@@ -11,7 +11,7 @@ use Rattle.storage.specs.declared.Geometry.{Geometry}
 use Rattle.storage.specs.Geometry.{geometryTest}
 use Rattle.device.proofs.Pairs.{false-left, false-right}
 use Rattle.session.specs.Tests.{sizeTest}
-use Rattle.rows.specs.Tests.{fiveUneven, lengthsNumber}
+use Rattle.rows.specs.Rows.{fiveUneven, lengthsNumber}
 
 module _ (g : Geometry) (media copy : ℕ) (uneven : Bool) where
   module _ (units sizes : ℕ) (u : units ≡ geometryTest g) where

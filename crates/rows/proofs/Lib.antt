@@ -1,3 +1,6 @@
--- Laws of the tests of calls in columns.
+-- Laws of the tests of a table's rows.
 pub mod Outside
 pub mod Lengths
+pub mod Scanned
+pub mod Numbers
+pub mod Rows

@@ -1,2 +1,3 @@
--- What the tests of calls in columns share. Definitions only; assumes nothing.
-pub mod Tests
+-- The tests of a table's rows. Definitions only; assumes nothing.
+pub mod Rows
+pub mod Ready

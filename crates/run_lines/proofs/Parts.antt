@@ -29,7 +29,6 @@ use Rattle.oracle.specs.declared.Banks.the-variants.{Absent}
 use Rattle.oracle.specs.declared.Verdict.{Verdict}
 use Rattle.oracle.specs.Verdict.{numberOf, verdict, verified}
 use Rattle.session.specs.declared.Armed.{Armed}
-use Rattle.session.specs.Log.{Log, logOf, Marks, marksOf}
 use Rattle.ledger.specs.Ledger.{Entered, enteredOf}
 use Rattle.script.specs.declared.Head.{Head}
 use Rattle.script.specs.Columns.{Columns}
@@ -42,13 +41,13 @@ use Rattle.sweep_lines.specs.Answers.{sweepPut}
 use Rattle.armed_runs.specs.declared.Placed.{Placed}
 use Rattle.armed_runs.specs.declared.Placed.the-variants.{Run, NoRun}
 use Rattle.armed_runs.specs.Places.{placedAt}
-use Rattle.harness_runs.specs.declared.RunAt.{RunAt}
-use Rattle.harness_runs.specs.declared.RunAt.the-variants.{Ended, NotRun}
-use Rattle.harness_runs.specs.Running.{RanAt, ranAt, runAtCall}
+use Rattle.harness_runs.specs.declared.Ran.{Ran}
+use Rattle.harness_runs.specs.declared.Ran.the-variants.{Ended, NotRun}
+use Rattle.harness_runs.specs.Running.{zeros, runLeft, runCall, ranOn}
 use Rattle.text_of_runs.specs.Claim.{rowsTo}
 use Rattle.run_lines.specs.declared.RunLine.{RunLine}
 use Rattle.run_lines.specs.declared.RunLine.the-variants.{NoLine}
-use Rattle.run_lines.specs.RunLine.{judgedOf, historyTest, judgePut, linePut, RunPut, runPut, lineReply, lineAs, RunEnd, runEnd, endOf, zeros, ranOn, lineEnded, armedPut, linePlaced, runLineCall}
+use Rattle.run_lines.specs.RunLine.{judgedOf, historyTest, judgePut, linePut, RunPut, runPut, lineReply, lineAs, RunEnd, runEnd, endOf, lineEnded, armedPut, linePlaced, runLineCall}
 
 -- a line as it was put
 abbrev pub lined : Line → (out : List ℕ) → Put
@@ -140,34 +139,35 @@ module _ (judged : Bool) (place : ℕ) (a : Armed) (s : Stop) (operations : ℕ)
 -- ---- the run
 
 -- a run on as much of the media and the copy as there is
-pub on-part : (h : Head) (a : Armed) (rows : ℕ) (k : Columns) (media copy : List ℕ) (l : Log) (m : Marks) (e : Entered) → length media ≡ 16384 → length copy ≡ 16384
-    → (n : ℕ) → n ≡ min (h .geometry .capacity) 16384 → (r : RunAt) (media₁ copy₁ : List ℕ) (l₁ : Log) (m₁ : Marks) (e₁ : Entered)
-    → ranAt r media₁ copy₁ l₁ m₁ e₁ ≡ runAtCall h a rows k (take n media) (take n copy) l m e
-    → runEnd r e₁ ≡ endOf (runAtCall h a rows k (take (h .geometry .capacity) media) (take (h .geometry .capacity) copy) l m e)
-on-part h a rows k media copy l m e lm lc n q r media₁ copy₁ l₁ m₁ e₁ p =
+pub on-part : (h : Head) (a : Armed) (rows : ℕ) (k : Columns) (media copy : List ℕ) (e : Entered) → length media ≡ 16384 → length copy ≡ 16384
+    → (n : ℕ) → n ≡ min (h .geometry .capacity) 16384 → (r : Ran) (media₁ copy₁ ks os ls : List ℕ) (e₁ : Entered)
+    → (let column : List ℕ = replicate 1024 0 in runLeft r media₁ copy₁ ks os ls e₁ ≡ runCall h a rows k (take n media) (take n copy) column column column e)
+    → runEnd r e₁ ≡ endOf (runCall h a rows k (take (h .geometry .capacity) media) (take (h .geometry .capacity) copy) (zeros 1024) (zeros 1024) (zeros 1024) e)
+unfolding zeros
+on-part h a rows k media copy e lm lc n q r media₁ copy₁ ks os ls e₁ p =
+    let column : List ℕ = replicate 1024 0 in
     ap endOf p
-    ∙ ap₂ (λ (x y : List ℕ). endOf (runAtCall h a rows k x y l m e)) (take-few media 16384 (h .geometry .capacity) n lm q)
+    ∙ ap₂ (λ (x y : List ℕ). endOf (runCall h a rows k x y column column column e)) (take-few media 16384 (h .geometry .capacity) n lm q)
     (take-few copy 16384 (h .geometry .capacity) n lc q)
 
-module _ (judged : Bool) (place : ℕ) (a : Armed) (h : Head) (rows : ℕ) (k : Columns) (at : ℕ) (out : List ℕ) (r : RunAt) (e : Entered)
+module _ (judged : Bool) (place : ℕ) (a : Armed) (h : Head) (rows : ℕ) (k : Columns) (at : ℕ) (out : List ℕ) (r : Ran) (e : Entered)
     (ran : runEnd r e ≡ endOf (ranOn h a rows k)) where
   armed-is : lineEnded judged place a r e at out ≡ armedPut judged place a h rows k at out
   unfolding armedPut
   armed-is = ap (λ (x : RunEnd). lineEnded judged place a (x .reply) (x .entries) at out) ran
 
   pub armed-refused : (number : ℕ) → r ≡ NotRun number → runPut (NoLine number) out ≡ armedPut judged place a h rows k at out
-  armed-refused number q = ap (λ (x : RunAt). lineEnded judged place a x e at out) (sym q) ∙ armed-is
+  armed-refused number q = ap (λ (x : Ran). lineEnded judged place a x e at out) (sym q) ∙ armed-is
 
-  pub armed-ended : (s : Stop) (operations count : ℕ) → r ≡ Ended s operations count → (line : RunLine) (new : List ℕ)
+  pub armed-ended : (s : Stop) (operations count : ℕ) (failed : Bool) → r ≡ Ended s operations count failed → (line : RunLine) (new : List ℕ)
       → runPut line new ≡ lineAs (linePut judged place a s operations (rowsTo count e) at out) → runPut line new ≡ armedPut judged place a h rows k at out
-  armed-ended s operations count q line new p = p ∙ ap (λ (x : RunAt). lineEnded judged place a x e at out) (sym q) ∙ armed-is
+  armed-ended s operations count failed q line new p = p ∙ ap (λ (x : Ran). lineEnded judged place a x e at out) (sym q) ∙ armed-is
 
 -- the run on columns of zeros
-pub on-zeros : (h : Head) (a : Armed) (rows : ℕ) (k : Columns) (r : RunAt) (e : Entered)
-    → let column : List ℕ = replicate 1024 0 in
-    let short : List ℕ = replicate 512 0 in
-    let cells : List ℕ = replicate 16384 0 in
-    runEnd r e ≡ endOf (runAtCall h a rows k (take (h .geometry .capacity) cells) (take (h .geometry .capacity) cells) (logOf column column column column column column) (marksOf short short short) (enteredOf short short short))
+pub on-zeros : (h : Head) (a : Armed) (rows : ℕ) (k : Columns) (r : Ran) (e : Entered)
+    → let short : List ℕ = replicate 512 0 in
+    let media : List ℕ = replicate 16384 0 in
+    runEnd r e ≡ endOf (runCall h a rows k (take (h .geometry .capacity) media) (take (h .geometry .capacity) media) (zeros 1024) (zeros 1024) (zeros 1024) (enteredOf short short short))
     → runEnd r e ≡ endOf (ranOn h a rows k)
 unfolding ranOn zeros
 on-zeros h a rows k r e p = p

@@ -3,7 +3,7 @@
 use mathlib.Core.Bool.{Bool, cond}
 use mathlib.Core.List.{List, [], _∷_}
 use Prim.Native.Nat.{ℕ}
-use lib.ListN.{length, take, replicate}
+use lib.ListN.{length}
 use lib.Dec.{leb}
 use Rattle.basics.specs.Tests.{unless, firstOf}
 use Rattle.landing.specs.declared.Stop.{Stop}
@@ -12,8 +12,7 @@ use Rattle.model.specs.Columns.{ledgerOf, refused}
 use Rattle.oracle.specs.declared.Banks.the-variants.{Absent}
 use Rattle.oracle.specs.Verdict.{numberOf, verdict}
 use Rattle.session.specs.declared.Armed.{Armed}
-use Rattle.session.specs.Log.{Log, logOf, Marks, marksOf}
-use Rattle.ledger.specs.Ledger.{Entered, enteredOf}
+use Rattle.ledger.specs.Ledger.{Entered}
 use Rattle.script.specs.declared.Head.{Head}
 use Rattle.script.specs.Columns.{Columns}
 use Rattle.lines.specs.declared.Line.{Line}
@@ -25,9 +24,9 @@ use Rattle.sweep_lines.specs.Answers.{sweepPut}
 use Rattle.armed_runs.specs.declared.Placed.{Placed}
 use Rattle.armed_runs.specs.declared.Placed.the-variants.{Run, NoRun}
 use Rattle.armed_runs.specs.Places.{placedAt}
-use Rattle.harness_runs.specs.declared.RunAt.{RunAt}
-use Rattle.harness_runs.specs.declared.RunAt.the-variants.{Ended, NotRun}
-use Rattle.harness_runs.specs.Running.{RanAt, runAtCall}
+use Rattle.harness_runs.specs.declared.Ran.{Ran}
+use Rattle.harness_runs.specs.declared.Ran.the-variants.{Ended, NotRun}
+use Rattle.harness_runs.specs.Running.{RunLeft, ranOn}
 use Rattle.text_of_runs.specs.Claim.{rowsTo}
 use Rattle.run_lines.specs.declared.RunLine.{RunLine}
 use Rattle.run_lines.specs.declared.RunLine.the-variants.{UpTo, NoLine}
@@ -69,38 +68,20 @@ lineReply (NotWritten number) = NoLine number
 abbrev pub lineAs : Put → RunPut
 lineAs p = runPut (lineReply (p .reply)) (p .out)
 
--- the columns that a run is lent
-unfoldable pub zeros : ℕ → List ℕ
-zeros n = replicate n 0
-
-abbrev pub freshLog : Log
-freshLog = logOf (zeros 1024) (zeros 1024) (zeros 1024) (zeros 1024) (zeros 1024) (zeros 1024)
-
-abbrev pub freshMarks : Marks
-freshMarks = marksOf (zeros 512) (zeros 512) (zeros 512)
-
-abbrev pub freshEntries : Entered
-freshEntries = enteredOf (zeros 512) (zeros 512) (zeros 512)
-
--- the run, on media of capacity length, at most 16,384
-unfoldable pub ranOn : Head → Armed → (rows : ℕ) → Columns → RanAt
-ranOn h a rows k =
-    runAtCall h a rows k (take (h .geometry .capacity) (zeros 16384)) (take (h .geometry .capacity) (zeros 16384)) freshLog freshMarks freshEntries
-
 -- what of a run its line is made of: how it ended, and the ledger's columns
 pub record RunEnd : Type 0 where
-  pub reply : RunAt
+  pub reply : Ran
   pub entries : Entered
 
-abbrev pub runEnd : RunAt → Entered → RunEnd
+abbrev pub runEnd : Ran → Entered → RunEnd
 runEnd r e = record { reply = r; entries = e }
 
-abbrev pub endOf : RanAt → RunEnd
+abbrev pub endOf : RunLeft → RunEnd
 endOf ran = runEnd (ran .reply) (ran .entries)
 
 -- its line, or the number that refuses the run
-abbrev pub lineEnded : (judged : Bool) → (place : ℕ) → Armed → RunAt → Entered → (at : ℕ) → (out : List ℕ) → RunPut
-lineEnded judged place a (Ended s n count) e at out = lineAs (linePut judged place a s n (rowsTo count e) at out)
+abbrev pub lineEnded : (judged : Bool) → (place : ℕ) → Armed → Ran → Entered → (at : ℕ) → (out : List ℕ) → RunPut
+lineEnded judged place a (Ended s n count failed) e at out = lineAs (linePut judged place a s n (rowsTo count e) at out)
 lineEnded judged place a (NotRun number) e at out = runPut (NoLine number) out
 
 unfoldable pub armedPut : (judged : Bool) → (place : ℕ) → Armed → Head → (rows : ℕ) → Columns → (at : ℕ) → (out : List ℕ) → RunPut

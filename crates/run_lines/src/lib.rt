@@ -1,8 +1,8 @@
 // The line of the run at a place of a sweep, as `sweep` or `judge` prints it, written into a buffer that the caller lends: what is
-// armed there, the script's run with it, its ledger, its line. A run has its media, copy, log, marks and ledger in locals, so it
-// depends on nothing that an earlier run left. Each promise is an equation with a definition of specs/.
+// armed there, the script's run with it, its ledger, its line. All that a run is lent are locals of zeros, so it depends on nothing
+// that an earlier run left. Each promise is an equation with a definition of specs/.
 use armed_runs::Placed;
-use harness_runs::RunAt;
+use harness_runs::Ran;
 use landing::Stop;
 use lines::Line;
 use model::ListAnswer;
@@ -12,7 +12,6 @@ use session::Armed;
 ghost use mathlib.Core.Path.{_≡_};
 ghost use Prim.Native.Nat.{_≤_, min};
 ghost use lib.ListN.{length, take};
-ghost use Rattle.session.specs.Log.{logOf, marksOf};
 ghost use Rattle.ledger.specs.Ledger.{enteredOf};
 ghost use Rattle.script.specs.Columns.{columns};
 ghost use Rattle.lines.specs.Answers.{Put, put};
@@ -21,7 +20,7 @@ ghost use Rattle.oracle.specs.declared.Banks.the-variants.{Absent};
 ghost use mathlib.Core.List.{[]};
 ghost use Rattle.lines.specs.Lines.{judgedLine};
 ghost use Rattle.text_of_runs.specs.Claim.{rowsTo};
-ghost use Rattle.harness_runs.specs.Running.{runAtCall};
+ghost use Rattle.harness_runs.specs.Running.{zeros, runCall};
 ghost use Rattle.run_lines.specs.RunLine.{judgePut, linePut, runPut, lineReply, lineAs, runEnd, endOf, armedPut, runLineCall};
 
 // The place past the line's LF; or the number that refuses it, and then nothing is written.
@@ -134,6 +133,37 @@ fn ledger_line(
     reply_of(line)
 }
 
+// The line of a ledger in arrays: so they have 512 rows.
+fn ended_line(
+    judged: bool,
+    place: u64,
+    armed: Armed,
+    stop: Stop,
+    operations: usize,
+    count: usize,
+    ids: &[u32; 512],
+    states: &[u8; 512],
+    torn: &[u8; 512],
+    out: &mut [u8],
+    at: usize,
+) -> RunLine
+    ensures { λ r. ⌜ runPut r (now (out .exit)) ≡ lineAs (linePut judged place armed stop operations (rowsTo count (enteredOf (now (ids .entry)) (now (states .entry)) (now (torn .entry)))) at (now (out .entry))) ⌝ }
+{
+    ledger_line(
+        judged,
+        place,
+        armed,
+        stop,
+        operations,
+        count,
+        ids,
+        states,
+        torn,
+        out,
+        at,
+    )
+}
+
 // ---- the run
 
 // A run on as much of the media as the script's line 1 says.
@@ -149,25 +179,19 @@ fn run_on(
     pool: &[u8],
     media: &mut [u8],
     copy: &mut [u8],
-    ops: &mut [u8],
-    spans: &mut [u32],
-    sizes: &mut [u32],
-    digests: &mut [u64],
-    changed: &mut [u8],
-    answered: &mut [u8],
-    marks: &mut [u8],
-    named: &mut [u32],
-    places: &mut [u64],
-    ids: &mut [u32],
-    states: &mut [u8],
-    torn: &mut [u8],
-) -> RunAt
+    ids: &mut [u32; 512],
+    states: &mut [u8; 512],
+    torn: &mut [u8; 512],
+) -> Ran
     requires { ⌜ (length (now media) ≡ 16384) × (length (now copy) ≡ 16384) ⌝ }
-    ensures { λ r. ⌜ runEnd r (enteredOf (now (ids .exit)) (now (states .exit)) (now (torn .exit))) ≡ endOf (runAtCall head armed rows (columns (now (kinds .entry)) (now (firsts .entry)) (now (seconds .entry)) (now (thirds .entry)) (now (starts .entry)) (now (pool .entry))) (take (head .geometry .capacity) (now (media .entry))) (take (head .geometry .capacity) (now (copy .entry))) (logOf (now (ops .entry)) (now (spans .entry)) (now (sizes .entry)) (now (digests .entry)) (now (changed .entry)) (now (answered .entry))) (marksOf (now (marks .entry)) (now (named .entry)) (now (places .entry))) (enteredOf (now (ids .entry)) (now (states .entry)) (now (torn .entry)))) ⌝ }
+    ensures { λ r. ⌜ runEnd r (enteredOf (now (ids .exit)) (now (states .exit)) (now (torn .exit))) ≡ endOf (runCall head armed rows (columns (now (kinds .entry)) (now (firsts .entry)) (now (seconds .entry)) (now (thirds .entry)) (now (starts .entry)) (now (pool .entry))) (take (head .geometry .capacity) (now (media .entry))) (take (head .geometry .capacity) (now (copy .entry))) (zeros 1024) (zeros 1024) (zeros 1024) (enteredOf (now (ids .entry)) (now (states .entry)) (now (torn .entry)))) ⌝ }
 {
+    let mut ops = [0u8; 1024];
+    let mut spans = [0u32; 1024];
+    let mut sizes = [0u32; 1024];
     let geometry = head.geometry;
     let capacity = basics::lower(geometry.capacity as usize, 16384);
-    harness_runs::run_at(
+    harness_runs::run_one(
         head,
         armed,
         rows,
@@ -179,15 +203,9 @@ fn run_on(
         pool,
         &mut media[..capacity],
         &mut copy[..capacity],
-        ops,
-        spans,
-        sizes,
-        digests,
-        changed,
-        answered,
-        marks,
-        named,
-        places,
+        &mut ops,
+        &mut spans,
+        &mut sizes,
         ids,
         states,
         torn,
@@ -214,15 +232,6 @@ fn armed_line(
 {
     let mut media = [0u8; 16384];
     let mut copy = [0u8; 16384];
-    let mut ops = [0u8; 1024];
-    let mut spans = [0u32; 1024];
-    let mut sizes = [0u32; 1024];
-    let mut digests = [0u64; 1024];
-    let mut changed = [0u8; 1024];
-    let mut answered = [0u8; 1024];
-    let mut marks = [0u8; 512];
-    let mut named = [0u32; 512];
-    let mut places = [0u64; 512];
     let mut ids = [0u32; 512];
     let mut states = [0u8; 512];
     let mut torn = [0u8; 512];
@@ -238,22 +247,13 @@ fn armed_line(
         pool,
         &mut media,
         &mut copy,
-        &mut ops,
-        &mut spans,
-        &mut sizes,
-        &mut digests,
-        &mut changed,
-        &mut answered,
-        &mut marks,
-        &mut named,
-        &mut places,
         &mut ids,
         &mut states,
         &mut torn,
     );
     match ran {
-        RunAt::NotRun(number) => RunLine::NoLine(number),
-        RunAt::Ended(stop, operations, count) => ledger_line(
+        Ran::NotRun(number) => RunLine::NoLine(number),
+        Ran::Ended(stop, operations, count, _) => ended_line(
             judged,
             place,
             armed,

@@ -63,6 +63,15 @@ neither true u e = absurd (let z : _≡_ {A = ℕ} 0 1 = cc in omega arith)
 neither false true e = absurd (let z : _≡_ {A = ℕ} 0 1 = cc in omega arith)
 neither false false e = (refl, refl)
 
+-- both letters are at most 87, from which the code is counted
+small-by : (k : ℕ) (t u : Bool) → eqb k 78 ≡ t → eqb k 83 ≡ u → (not t && not u) ≡ false → k ≤ 87
+small-by k true u p q e = let a = eqb-true k 78 p in omega arith
+small-by k false true p q e = let a = eqb-true k 83 q in omega arith
+small-by k false false p q e = absurd (let z : _≡_ {A = ℕ} 0 1 = cc in omega arith)
+
+pub alone-small : (k : ℕ) → (not (eqb k 78) && not (eqb k 83)) ≡ false → k ≤ 87
+alone-small k e = small-by k (eqb k 78) (eqb k 83) refl refl e
+
 alone-by : (t u : Bool) (k : ℕ) (xs : List ℕ) → (k ≡ 78 → ⊥) → (k ≡ 83 → ⊥) → meaningIn (cond t (cells [] [] (10 ∷ xs)) (cond u (pushCell (cells [] [] xs)) (ontoCell k (cells [] [] xs)))) ≡ malformed
 unfolding callOf
 alone-by true u k xs n m = refl
@@ -80,20 +89,20 @@ module _ (s : List ℕ) (from k : ℕ) (w : Opened s from k 10) where
   alone-cells : cellsOf (drop from s) ≡ cellsOf (k ∷ 10 ∷ drop (from + 2) s)
   alone-cells = ap cellsOf (w .is)
 
-  alone-end : k ≡ 78 → Taken s from (rowOf k 0 0 0 (from + 2) 0) (from + 2)
+  alone-end : k ≡ 78 → Taken s from (rowOf ((87 - k) / 2) 0 0 0 (from + 2) 0) (from + 2)
   unfolding cellsOf callOf
-  alone-end e = record { it = end; field = 78 ∷ []; others = []; is = alone-cells ∙ rw e; means = refl; kind-is = e; first-is = refl; second-is = refl; third-is = refl; size-is = refl; bytes = refl; small = omega arith; forward = omega arith; inside = w .inside }
+  alone-end e = record { it = end; field = 78 ∷ []; others = []; is = alone-cells ∙ rw e; means = refl; kind-is = rw e; first-is = refl; second-is = refl; third-is = refl; size-is = refl; bytes = refl; small = omega arith; forward = omega arith; inside = w .inside }
 
-  alone-barrier : k ≡ 83 → Taken s from (rowOf k 0 0 0 (from + 2) 0) (from + 2)
+  alone-barrier : k ≡ 83 → Taken s from (rowOf ((87 - k) / 2) 0 0 0 (from + 2) 0) (from + 2)
   unfolding cellsOf callOf
-  alone-barrier e = record { it = barrier; field = 83 ∷ []; others = []; is = alone-cells ∙ rw e; means = refl; kind-is = e; first-is = refl; second-is = refl; third-is = refl; size-is = refl; bytes = refl; small = omega arith; forward = omega arith; inside = w .inside }
+  alone-barrier e = record { it = barrier; field = 83 ∷ []; others = []; is = alone-cells ∙ rw e; means = refl; kind-is = rw e; first-is = refl; second-is = refl; third-is = refl; size-is = refl; bytes = refl; small = omega arith; forward = omega arith; inside = w .inside }
 
-  row-by : (t u : Bool) → eqb k 78 ≡ t → eqb k 83 ≡ u → (not t && not u) ≡ false → Taken s from (rowOf k 0 0 0 (from + 2) 0) (from + 2)
+  row-by : (t u : Bool) → eqb k 78 ≡ t → eqb k 83 ≡ u → (not t && not u) ≡ false → Taken s from (rowOf ((87 - k) / 2) 0 0 0 (from + 2) 0) (from + 2)
   row-by true u p q e = alone-end (eqb-true k 78 p)
   row-by false true p q e = alone-barrier (eqb-true k 83 q)
   row-by false false p q e = absurd (let z : _≡_ {A = ℕ} 0 1 = cc in omega arith)
 
-  pub alone-row : (not (eqb k 78) && not (eqb k 83)) ≡ false → Taken s from (rowOf k 0 0 0 (from + 2) 0) (from + 2)
+  pub alone-row : (not (eqb k 78) && not (eqb k 83)) ≡ false → Taken s from (rowOf ((87 - k) / 2) 0 0 0 (from + 2) 0) (from + 2)
   alone-row e = row-by (eqb k 78) (eqb k 83) refl refl e
 
   pub alone-faulty : (not (eqb k 78) && not (eqb k 83)) ≡ true → meaningIn (cellsOf (drop from s)) ≡ malformed
@@ -129,7 +138,7 @@ begin-missed (cells f [] rest) n = rw (n f rest refl)
 begin-missed (cells f (g ∷ gs) rest) n = refl
 
 module _ (s : List ℕ) (from : ℕ) (w : Opened s from 66 9) (r : Number) (e : r ≡ numberAt (from + 2) (fieldTo 10 (drop (from + 2) s))) where
-  pub begin-taken : (id next : ℕ) → r ≡ Value id next → Taken s from (rowOf 66 id 0 0 next 0) next
+  pub begin-taken : (id next : ℕ) → r ≡ Value id next → Taken s from (rowOf 3 id 0 0 next 0) next
   unfolding callOf
   begin-taken id next q =
       let l = last-value s (from + 2) r id next e q in
@@ -168,7 +177,7 @@ module _ (s : List ℕ) (from : ℕ) (w : Opened s from 69 9) (r : Number) (e : 
         let i = inner-value s (from + 2) r offset at e q in
         ap meaningIn (fronted s from 69 (omega arith) w ∙ ap (inFront (69 ∷ [])) (i .is)) ∙ erase-missed-2 (i .f) (cellsOf (drop at s)) (last-none s at t d p)
 
-    pub erase-taken : (len next : ℕ) → t ≡ Value len next → Taken s from (rowOf 69 offset len 0 next 0) next
+    pub erase-taken : (len next : ℕ) → t ≡ Value len next → Taken s from (rowOf 1 offset len 0 next 0) next
     unfolding callOf
     erase-taken len next p =
         let i = inner-value s (from + 2) r offset at e q in
@@ -226,7 +235,7 @@ module _ (s : List ℕ) (from : ℕ) (w : Opened s from 77 9) (r : Number) (e : 
           let j = inner-value s at t low past d p in
           ap meaningIn (fronted s from 77 (omega arith) w ∙ ap (inFront (77 ∷ [])) (i .is ∙ ap (inFront (i .f)) (j .is))) ∙ mark-missed-3 (i .f) (j .f) (cellsOf (drop past s)) (last-none s past u c o)
 
-      pub mark-taken : (high next : ℕ) → u ≡ Value high next → Taken s from (rowOf 77 id low high next 0) next
+      pub mark-taken : (high next : ℕ) → u ≡ Value high next → Taken s from (rowOf 5 id low high next 0) next
       unfolding callOf
       mark-taken high next o =
           let i = inner-value s (from + 2) r id at e q in
@@ -289,7 +298,7 @@ module _ (s : List ℕ) (from : ℕ) (w : Opened s from 80 9) (r : Number) (e : 
           program-long : (f g rest : List ℕ) → isBytes g ≡ false → Missed 80 (inFront f (cells g [] rest))
           program-long f g rest b = program-missed-2 f (cells g [] rest) (λ h′ rest′ c. let a : h′ ≡ g = cc in rw a b)
 
-      pub program-taken : count ≤ 4096 → Taken s from (rowOf 80 offset count 0 start count) next
+      pub program-taken : count ≤ 4096 → Taken s from (rowOf 0 offset count 0 start count) next
       unfolding callOf
       program-taken h =
           let i = inner-value s (from + 2) r offset start e q in

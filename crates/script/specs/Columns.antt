@@ -25,14 +25,14 @@ columns k a b c s p = record { kinds = k; firsts = a; seconds = b; thirds = c; s
 
 -- ---- the row of a call
 
--- the kind is the line's letter
+-- the kind is a code, the one that a list of calls has: 0 a program, 1 an erase, 2 a barrier, 3 begin, 4 end; and 5 a range
 abbrev pub kindOf : Call → ℕ
-kindOf (begin id) = 66
-kindOf end = 78
-kindOf (mark id from to) = 77
-kindOf (program offset bytes) = 80
-kindOf (erase offset count) = 69
-kindOf barrier = 83
+kindOf (begin id) = 3
+kindOf end = 4
+kindOf (mark id from to) = 5
+kindOf (program offset bytes) = 0
+kindOf (erase offset count) = 1
+kindOf barrier = 2
 
 -- id or offset; 0 where there is none
 abbrev pub firstIn : Call → ℕ

@@ -8,14 +8,14 @@ use lib.Dec.{eqb}
 use Rattle.script.specs.Calls.{Call, begin, end, mark, program, erase, barrier}
 use Rattle.script.specs.Columns.{Columns}
 
--- the call of one row: 66 `B`, 78 `N`, 77 `M`, 80 `P`, 69 `E`, else `S`
+-- the call of one row: 0 a program, 1 an erase, 2 a barrier, 3 begin, 4 end, else a range
 abbrev pub callFrom : (kind first second third start : ℕ) → (pool : List ℕ) → Call
 callFrom kind first second third start pool =
-    cond (eqb kind 66) (begin first)
-    (cond (eqb kind 78) end
-    (cond (eqb kind 77) (mark first second third)
-    (cond (eqb kind 80) (program first (take second (drop start pool)))
-    (cond (eqb kind 69) (erase first second) barrier))))
+    cond (eqb kind 0) (program first (take second (drop start pool)))
+    (cond (eqb kind 1) (erase first second)
+    (cond (eqb kind 2) barrier
+    (cond (eqb kind 3) (begin first)
+    (cond (eqb kind 4) end (mark first second third)))))
 
 unfoldable pub rowsIn : ℕ → (kinds firsts seconds thirds starts pool : List ℕ) → List Call
 rowsIn zero ks xs bs cs ss pool = []

@@ -120,9 +120,11 @@ fn alone_line(text: &[u8], from: usize, kind: u8) -> Line
     if other {
         return Line::Faulty;
     }
+    // Half of what is left to 87, rounded down, is 4 for `N` and 2 for `S`: again no branch between the two.
+    let code = (87 - kind) / 2;
     let next = from + 2;
     let row = Row {
-        kind,
+        kind: code,
         first: 0,
         second: 0,
         third: 0,
@@ -142,7 +144,7 @@ fn begin_line(text: &[u8], from: usize) -> Line
         return Line::Faulty;
     };
     let row = Row {
-        kind: b'B',
+        kind: 3,
         first: id,
         second: 0,
         third: 0,
@@ -170,7 +172,7 @@ fn mark_line(text: &[u8], from: usize) -> Line
         return Line::Faulty;
     };
     let row = Row {
-        kind: b'M',
+        kind: 5,
         first: id,
         second: first,
         third: last,
@@ -194,7 +196,7 @@ fn erase_line(text: &[u8], from: usize) -> Line
         return Line::Faulty;
     };
     let row = Row {
-        kind: b'E',
+        kind: 1,
         first: offset,
         second: len,
         third: 0,
@@ -222,7 +224,7 @@ fn program_line(text: &[u8], from: usize) -> Line
     }
     let size = count as u32;
     let row = Row {
-        kind: b'P',
+        kind: 0,
         first: offset,
         second: size,
         third: 0,
@@ -485,10 +487,11 @@ pub fn count_calls(text: &[u8]) -> ReadScript
     }
 }
 
-// Reads a script into lent columns: for each call its kind, which is its line's letter, its first field (id or offset),
-// its second (from or length), its third (to), and where in the pool its bytes start. A field that a call does not have
-// is 0. A refusal leaves all that was lent as it was: the script's own numbers first, then 12 for columns of unequal
-// length and 13 for columns or a pool that are too short.
+// Reads a script into lent columns: for each call its kind by code, its first field (id or offset), its second (from or
+// length), its third (to), and where in the pool its bytes start. The codes are those of a list of calls: 0 a program,
+// 1 an erase, 2 a barrier, 3 begin, 4 end; and 5 a range. A field that a call does not have is 0. A refusal leaves all
+// that was lent as it was: the script's own numbers first, then 12 for columns of unequal length and 13 for columns or a
+// pool that are too short.
 pub fn read_script(
     text: &[u8],
     kinds: &mut [u8],

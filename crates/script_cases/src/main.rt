@@ -1,8 +1,8 @@
 // Replays a sample of scripts: good ones, and a damaged copy of every kind of line. Each line has the text, with its tabs, LFs
 // and CRs to be seen, then the answer (A: the number and the line; or 0 0, then line 1's four units and two flags, how many
-// calls and how many bytes), then the five lent columns (K kinds, F first, S second, T third fields, B where bytes start) and
-// the pool (P), whole: what is not written stays 9. The file stdout beside src/ has what tests/differential's own reader
-// answers, which was written from document 01 alone, and was made by
+// calls and how many bytes), then the five lent columns (K codes of kinds, F first, S second, T third fields, B where bytes
+// start) and the pool (P), whole: what is not written stays 9. The file stdout beside src/ has what tests/differential's own
+// reader answers, which was written from document 01 alone, with the code for each letter, and was made by
 //     tests/differential/run sample script > crates/script_cases/stdout
 // The texts and their order are those of `sample` in tests/differential/src/script.rs.
 ghost use Prim.Native.Nat.{_<_, _≤_};

@@ -6,10 +6,20 @@ use Rattle.landing.specs.declared.Stop.the-variants.{Running}
 use Rattle.landing.specs.declared.Ending.{Ending}
 use Rattle.landing.specs.Landed.{programLanded, eraseLanded, ran}
 use Rattle.landing.specs.Ending.{endingOf}
+use Rattle.storage.specs.declared.Geometry.{Geometry}
+use Rattle.device.specs.declared.OneWayBits.{OneWayBits}
+use Rattle.session.specs.declared.Told.{Told}
 use Rattle.session.specs.declared.Armed.{Armed}
 use Rattle.session.specs.declared.Armed.the-variants.{Nothing, At}
 use Rattle.session.specs.declared.Counters.{Counters}
 use Rattle.session.specs.declared.Called.{Called}
+
+-- what a start is told, made in one place; and the same with another injection
+abbrev pub toldWith : Geometry → OneWayBits → Armed → Told
+toldWith g b a = record { geometry = g; bits = b; armed = a }
+
+abbrev pub cutBy : Told → Armed → Told
+cutBy t a = toldWith (t .geometry) (t .bits) a
 
 -- the injection, if it is armed on the operation with this index
 abbrev pub armedOn : Armed → (index : ℕ) → Armed

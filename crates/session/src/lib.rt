@@ -21,7 +21,7 @@ ghost use mathlib.Core.Path.{_≡_};
 ghost use Rattle.basics.specs.Tests.{flag};
 ghost use Rattle.session.specs.Log.{logOf, logged};
 ghost use Rattle.session.specs.Tests.{logUneven, sizeTest, logLengthTest, operationTest};
-ghost use Rattle.session.specs.Armed.{armedOn, isArmed, endedBy, nextCount, replied};
+ghost use Rattle.session.specs.Armed.{toldWith, armedOn, isArmed, endedBy, nextCount, replied};
 ghost use Rattle.session.specs.Written.{plannedAt};
 
 // How many operations and marks a session takes.
@@ -80,6 +80,17 @@ pub struct Plan {
 pub enum Started {
     Fresh(Counters),
     NotStarted(u32),
+}
+
+// What a start is told is made here alone.
+pub fn told_with(geometry: Geometry, bits: OneWayBits, armed: Armed) -> Told
+    ensures { λ r. ⌜ r ≡ toldWith geometry bits armed ⌝ }
+{
+    Told {
+        geometry,
+        bits,
+        armed,
+    }
 }
 
 // ---- tests that calls share, over the lengths lent

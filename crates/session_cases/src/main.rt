@@ -1,30 +1,58 @@
-// Replays a sample of the Rust's sessions: one list of calls with an injection armed, at each operation, under each
-// interruption, with each of six progresses. Each line has the injection and the answers as numbers; the file stdout beside
-// src/ has what the Rust answers to the same inputs, and was made by
-//     tests/differential/run sample session > crates/session_cases/stdout
-// The calls and the order of the cases are those of `sample` in tests/differential/src/session.rs. Among the lines are document
-// 01's examples: a barrier under power loss answers 21 with count 0 and 0 with count 1 (lines 2 and 3), and a zero-length
-// program under power loss none answers 0, the next call 21 (line 19).
+// Replays a sample of the Rust's sessions and ledgers: two lists of calls, each with an injection armed at each operation and past
+// the last, under each interruption, with each of six progresses. A line has the injection and the calls' answers as numbers; then,
+// for the first list, how many operations are recorded and the media, and for the second, which marks records, each record's id,
+// state and torn. The file stdout beside src/ has what the Rust answers to the same inputs, and was made by
+//     (tests/differential/run sample session; tests/differential/run sample ledger) > crates/session_cases/stdout
+// The calls and the order of the cases are those of `sample` in tests/differential/src/session.rs and ledger.rs. Among the lines are
+// document 01's examples: a barrier under power loss answers 21 with count 0 and 0 with count 1 (lines 2 and 3; 128 and 129, where
+// it acknowledges only then), and a zero-length program under power loss none answers 0, the next call 21 (lines 19 and 163); under
+// power loss at 2, the bytes 00 00 ff ff over erased cells are not torn (line 112) and 00 00 00 00 are (line 148).
 ghost use Prim.Native.Nat.{_<_};
 use device::OneWayBits;
 use inject::Injection;
 use inject::Interruption;
 use inject::Progress;
+use ledger::Derived;
 use libc::STDOUT_FILENO;
 use session::Armed;
-use session::Called;
 use session::Counters;
 use session::Started;
 use session::Told;
 use storage::Geometry;
 
-const KINDS: [u32; 6] = [0, 1, 1, 1, 1, 2];
+// The progresses of the injection: a kind (0 none, 1 bytes, 2 whole) and a count, one for each list.
+const PROGRESSES: [u32; 6] = [0, 1, 1, 1, 1, 2];
 
 const COUNTS: [u32; 6] = [0, 0, 1, 5, 9, 0];
 
-const BYTES: [u8; 8] = [1, 2, 3, 4, 5, 6, 7, 8];
+const MARKED_COUNTS: [u32; 6] = [0, 0, 1, 2, 9, 0];
 
-const NO_BYTES: [u8; 0] = [];
+// The first list: a barrier, a program of no bytes at 4, one of eight at 0, an erase of both blocks, a barrier.
+const KINDS: [u8; 5] = [2, 0, 0, 1, 2];
+
+const FIRSTS: [u32; 5] = [0, 4, 0, 0, 0];
+
+const SECONDS: [u32; 5] = [0, 0, 8, 16, 0];
+
+const THIRDS: [u32; 5] = [0, 0, 0, 0, 0];
+
+const STARTS: [u32; 5] = [0, 0, 0, 0, 0];
+
+const POOL: [u8; 8] = [1, 2, 3, 4, 5, 6, 7, 8];
+
+// The second: begin 7, a program of four bytes at 0, a barrier, begin 8, programs of four bytes at 4 and of none at 8, a barrier,
+// end, an erase of the first block, and operations 2 to 4 marked as 9.
+const MARKED_KINDS: [u8; 10] = [3, 0, 2, 3, 0, 0, 2, 4, 1, 5];
+
+const MARKED_FIRSTS: [u32; 10] = [7, 0, 0, 8, 4, 8, 0, 0, 0, 9];
+
+const MARKED_SECONDS: [u32; 10] = [0, 4, 0, 0, 4, 0, 0, 0, 8, 2];
+
+const MARKED_THIRDS: [u32; 10] = [0, 0, 0, 0, 0, 0, 0, 0, 0, 4];
+
+const MARKED_STARTS: [u32; 10] = [0, 0, 0, 0, 4, 0, 0, 0, 0, 0];
+
+const MARKED_POOL: [u8; 8] = [0, 0, 255, 255, 0, 0, 0, 0];
 
 // A number with a blank before it.
 fn print(n: u32) {
@@ -34,12 +62,6 @@ fn print(n: u32) {
 
 fn print_byte(byte: u8) {
     print(byte as u32);
-}
-
-fn print_media(media: [u8; 16]) {
-    for place in 0..16 {
-        print_byte(media[place]);
-    }
 }
 
 fn progress_of(kind: u32, count: u32) -> Progress {
@@ -64,169 +86,97 @@ fn interruption_of(cause: usize) -> Interruption {
 
 // The device 16/8/4/4, with the injection armed.
 fn told_of(op: usize, progress: Progress, interruption: Interruption) -> Told {
-    Told {
-        geometry: Geometry {
-            capacity: 16,
-            erase_size: 8,
-            program_size: 4,
-            read_size: 4,
-        },
-        bits: OneWayBits::Absorbed,
-        armed: Armed::At(Injection {
-            op,
-            progress,
-            interruption,
-        }),
+    let geometry = Geometry {
+        capacity: 16,
+        erase_size: 8,
+        program_size: 4,
+        read_size: 4,
+    };
+    let armed = Armed::At(Injection {
+        op,
+        progress,
+        interruption,
+    });
+    session::told_with(geometry, OneWayBits::Absorbed, armed)
+}
+
+// As many answers as rows were run, of up to ten.
+fn print_answers(answers: &[u32; 10], done: usize) {
+    for place in 0..10 {
+        if place < done {
+            print(answers[place]);
+        }
     }
 }
 
-// What a call leaves: the media, the withheld copy, the log's columns, and its answer with the counters. It goes from call to call
-// by value, since a check's time grows with the square of the `&mut` slices that a function hands on: each call lends copies of its
-// own. The arrays stand before `called`, and a state before what is told, since the search for their lengths does not reach far.
-struct State {
-    media: [u8; 16],
-    copy: [u8; 16],
-    kinds: [u8; 1024],
-    offsets: [u32; 1024],
-    lens: [u32; 1024],
-    digests: [u64; 1024],
-    changed: [u8; 1024],
-    answered: [u8; 1024],
-    called: Called,
+fn print_media(media: &[u8; 16]) {
+    for place in 0..16 {
+        print_byte(media[place]);
+    }
 }
 
-fn program(state: State, told: Told, offset: u32, bytes: &[u8]) -> State {
-    let before = state.called;
-    let mut media = state.media;
-    let mut copy = state.copy;
-    let mut kinds = state.kinds;
-    let mut offsets = state.offsets;
-    let mut lens = state.lens;
-    let mut digests = state.digests;
-    let mut changed = state.changed;
-    let mut answered = state.answered;
-    let called = session_program::program(
+// How many operations are recorded, and the media.
+fn print_end(counters: Counters, media: &[u8; 16]) {
+    io::write_all(STDOUT_FILENO, b" ");
+    io::print_decimal(STDOUT_FILENO, counters.operations as u64);
+    print_media(media);
+}
+
+// As many entries as there are, of up to sixteen.
+fn print_entries(ids: &[u32; 16], states: &[u8; 16], torn: &[u8; 16], entries: usize) {
+    for place in 0..16 {
+        if place < entries {
+            print(ids[place]);
+            print_byte(states[place]);
+            print_byte(torn[place]);
+        }
+    }
+}
+
+// The ledger's entries. What refuses a ledger would be its last number.
+fn print_ledger(
+    told: Told,
+    counters: Counters,
+    media: &[u8; 16],
+    copy: &[u8; 16],
+    ops: &[u8; 1024],
+    spans: &[u32; 1024],
+    sizes: &[u32; 1024],
+    digests: &[u64; 1024],
+    changed: &[u8; 1024],
+    answered: &[u8; 1024],
+    marks: &[u8; 512],
+    named: &[u32; 512],
+    places: &[u64; 512],
+) {
+    let mut ids = [0u32; 16];
+    let mut states = [0u8; 16];
+    let mut torn = [0u8; 16];
+    let derived = runner::derive(
         told,
-        before.counters,
-        offset,
-        bytes,
-        &mut media,
-        &mut copy,
-        &mut kinds,
-        &mut offsets,
-        &mut lens,
-        &mut digests,
-        &mut changed,
-        &mut answered,
+        counters,
+        media,
+        copy,
+        ops,
+        spans,
+        sizes,
+        digests,
+        changed,
+        answered,
+        marks,
+        named,
+        places,
+        &mut ids,
+        &mut states,
+        &mut torn,
     );
-    let mut after = state;
-    after.media = media;
-    after.copy = copy;
-    after.kinds = kinds;
-    after.offsets = offsets;
-    after.lens = lens;
-    after.digests = digests;
-    after.changed = changed;
-    after.answered = answered;
-    after.called = called;
-    after
-}
-
-fn erase(state: State, told: Told, offset: u32, len: u32) -> State {
-    let before = state.called;
-    let mut media = state.media;
-    let mut copy = state.copy;
-    let mut kinds = state.kinds;
-    let mut offsets = state.offsets;
-    let mut lens = state.lens;
-    let mut digests = state.digests;
-    let mut changed = state.changed;
-    let mut answered = state.answered;
-    let called = session_erase::erase(
-        told,
-        before.counters,
-        offset,
-        len,
-        &mut media,
-        &mut copy,
-        &mut kinds,
-        &mut offsets,
-        &mut lens,
-        &mut digests,
-        &mut changed,
-        &mut answered,
-    );
-    let mut after = state;
-    after.media = media;
-    after.copy = copy;
-    after.kinds = kinds;
-    after.offsets = offsets;
-    after.lens = lens;
-    after.digests = digests;
-    after.changed = changed;
-    after.answered = answered;
-    after.called = called;
-    after
-}
-
-fn barrier(state: State, told: Told) -> State {
-    let before = state.called;
-    let mut kinds = state.kinds;
-    let mut offsets = state.offsets;
-    let mut lens = state.lens;
-    let mut digests = state.digests;
-    let mut changed = state.changed;
-    let mut answered = state.answered;
-    let called = session_calls::barrier(
-        told,
-        before.counters,
-        &mut kinds,
-        &mut offsets,
-        &mut lens,
-        &mut digests,
-        &mut changed,
-        &mut answered,
-    );
-    let mut after = state;
-    after.kinds = kinds;
-    after.offsets = offsets;
-    after.lens = lens;
-    after.digests = digests;
-    after.changed = changed;
-    after.answered = answered;
-    after.called = called;
-    after
-}
-
-// One of the five calls: a barrier, a program of no bytes, a program, an erase, a barrier.
-fn step(state: State, told: Told, which: usize) -> State {
-    if which == 1 {
-        return program(state, told, 4, &NO_BYTES);
+    match derived {
+        Derived::Entries(entries) => print_entries(&ids, &states, &torn, entries),
+        Derived::NotDerived(number) => print(number),
     }
-    if which == 2 {
-        return program(state, told, 0, &BYTES);
-    }
-    if which == 3 {
-        return erase(state, told, 0, 16);
-    }
-    barrier(state, told)
 }
 
-fn print_answer(called: Called) {
-    print(called.answer);
-}
-
-// All of them, with their answers.
-fn replay(fresh: State, told: Told) -> State {
-    let mut state = fresh;
-    for which in 0..5 {
-        state = step(state, told, which);
-        print_answer(state.called);
-    }
-    state
-}
-
-// A start looks at the columns' lengths alone: those lent here need not be the state's, and one serves for all of its type.
+// A start looks at the columns' lengths alone: those lent here need not be the run's, and one serves for all of its type.
 fn start(told: Told, media: &mut [u8; 16]) -> Started {
     let bytes: &[u8] = &[0u8; 1024];
     let words: &[u32] = &[0u32; 1024];
@@ -246,66 +196,156 @@ fn start(told: Told, media: &mut [u8; 16]) -> Started {
     )
 }
 
-// The state before the first call.
-fn fresh(media: [u8; 16], counters: Counters) -> State {
-    State {
+// The rows in turn, each with its answer, and what they left.
+fn run(
+    told: Told,
+    fresh: Counters,
+    marked: bool,
+    kinds: &[u8],
+    firsts: &[u32],
+    seconds: &[u32],
+    thirds: &[u32],
+    starts: &[u32],
+    pool: &[u8],
+    media: &mut [u8; 16],
+) {
+    let mut answers = [0u32; 10];
+    let mut copy = [0u8; 16];
+    let mut ops = [0u8; 1024];
+    let mut spans = [0u32; 1024];
+    let mut sizes = [0u32; 1024];
+    let mut digests = [0u64; 1024];
+    let mut changed = [0u8; 1024];
+    let mut answered = [0u8; 1024];
+    let mut marks = [0u8; 512];
+    let mut named = [0u32; 512];
+    let mut places = [0u64; 512];
+    let ended = runner::run_rows(
+        told,
+        true,
+        fresh,
+        kinds.len(),
+        kinds,
+        firsts,
+        seconds,
+        thirds,
+        starts,
+        pool,
+        &mut answers,
         media,
-        copy: [0u8; 16],
-        kinds: [0u8; 1024],
-        offsets: [0u32; 1024],
-        lens: [0u32; 1024],
-        digests: [0u64; 1024],
-        changed: [0u8; 1024],
-        answered: [0u8; 1024],
-        called: Called {
-            answer: 0,
+        &mut copy,
+        &mut ops,
+        &mut spans,
+        &mut sizes,
+        &mut digests,
+        &mut changed,
+        &mut answered,
+        &mut marks,
+        &mut named,
+        &mut places,
+    );
+    print_answers(&answers, ended.done);
+    let counters = ended.counters;
+    if marked {
+        print_ledger(
+            told,
             counters,
-        },
+            media,
+            &copy,
+            &ops,
+            &spans,
+            &sizes,
+            &digests,
+            &changed,
+            &answered,
+            &marks,
+            &named,
+            &places,
+        );
+    } else {
+        print_end(counters, media);
     }
-}
-
-// How many operations are recorded, and the media.
-fn print_end(state: State) {
-    let media = state.media;
-    let called = state.called;
-    let counters = called.counters;
-    io::write_all(STDOUT_FILENO, b" ");
-    io::print_decimal(STDOUT_FILENO, counters.operations as u64);
-    print_media(media);
 }
 
 // What a line has after its injection. A refused start would be its number alone.
-fn one_session(told: Told) {
+fn one_session(told: Told, marked: bool) {
     let mut media = [0u8; 16];
     let begun = start(told, &mut media);
     match begun {
-        Started::Fresh(counters) => print_end(replay(fresh(media, counters), told)),
         Started::NotStarted(number) => print(number),
+        Started::Fresh(fresh) => {
+            if marked {
+                run(
+                    told,
+                    fresh,
+                    true,
+                    &MARKED_KINDS,
+                    &MARKED_FIRSTS,
+                    &MARKED_SECONDS,
+                    &MARKED_THIRDS,
+                    &MARKED_STARTS,
+                    &MARKED_POOL,
+                    &mut media,
+                );
+            } else {
+                run(
+                    told,
+                    fresh,
+                    false,
+                    &KINDS,
+                    &FIRSTS,
+                    &SECONDS,
+                    &THIRDS,
+                    &STARTS,
+                    &POOL,
+                    &mut media,
+                );
+            }
+        }
     }
 }
 
-// One line: the injection, each call's answer, how many operations are recorded, and the media.
-fn one_case(place: usize)
-    requires { ⌜ place < 108 ⌝ }
+fn count_of(place: usize, marked: bool) -> u32 {
+    if marked {
+        return MARKED_COUNTS[place % 6];
+    }
+    COUNTS[place % 6]
+}
+
+// One line: the injection, each call's answer, and what the calls left.
+fn one_case(place: usize, marked: bool)
+    requires { ⌜ place < 126 ⌝ }
 {
     let op = place / 18;
     let cause = place / 6 % 3;
-    let kind = KINDS[place % 6];
-    let count = COUNTS[place % 6];
+    let kind = PROGRESSES[place % 6];
+    let count = count_of(place, marked);
     io::print_decimal(STDOUT_FILENO, op as u64);
     print(cause as u32);
     print(kind);
     print(count);
-    one_session(told_of(op, progress_of(kind, count), interruption_of(cause)));
+    one_session(
+        told_of(op, progress_of(kind, count), interruption_of(cause)),
+        marked,
+    );
     io::write_all(STDOUT_FILENO, b"\n");
 }
 
-fn cases() {
+// Five operations, and one past the last.
+fn session_lines() {
     for place in 0..108 {
-        one_case(place);
+        one_case(place, false);
+    }
+}
+
+// Six operations, and one past the last.
+fn ledger_lines() {
+    for place in 0..126 {
+        one_case(place, true);
     }
 }
 
 fn main() {
-    cases();
+    session_lines();
+    ledger_lines();
 }

@@ -24,20 +24,18 @@ use session_entries::EntryAnswer;
 use storage::Geometry;
 
 fn told() -> Told {
-    Told {
-        geometry: Geometry {
-            capacity: 16,
-            erase_size: 8,
-            program_size: 4,
-            read_size: 4,
-        },
-        bits: OneWayBits::Absorbed,
-        armed: Armed::At(Injection {
-            op: 1,
-            progress: Progress::None,
-            interruption: Interruption::PowerLoss,
-        }),
-    }
+    let geometry = Geometry {
+        capacity: 16,
+        erase_size: 8,
+        program_size: 4,
+        read_size: 4,
+    };
+    let armed = Armed::At(Injection {
+        op: 1,
+        progress: Progress::None,
+        interruption: Interruption::PowerLoss,
+    });
+    session::told_with(geometry, OneWayBits::Absorbed, armed)
 }
 
 fn print_number(n: u64, after: &[u8; 1]) {

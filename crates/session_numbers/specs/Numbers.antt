@@ -19,6 +19,7 @@ use Rattle.session.specs.declared.Armed.{Armed}
 use Rattle.session.specs.declared.Armed.the-variants.{Nothing, At}
 use Rattle.session.specs.declared.Told.{Told}
 use Rattle.session.specs.declared.Counters.{Counters}
+use Rattle.session.specs.Armed.{toldWith}
 
 -- ---- what the start was told
 
@@ -42,11 +43,9 @@ armedOf armed op kind count cause =
 -- ten numbers: the four units, the bit rule, whether an injection is armed, and its operation, kind of progress, byte count and
 -- interruption. A number that is not there is 0.
 unfoldable pub toldOf : List ℕ → Told
-toldOf told = record {
-  geometry = geometryOf (getD told 0 0) (getD told 1 0) (getD told 2 0) (getD told 3 0);
-  bits = ruleOf (getD told 4 0);
-  armed = armedOf (getD told 5 0) (getD told 6 0) (getD told 7 0) (getD told 8 0) (getD told 9 0);
-}
+toldOf told =
+    toldWith (geometryOf (getD told 0 0) (getD told 1 0) (getD told 2 0) (getD told 3 0)) (ruleOf (getD told 4 0))
+    (armedOf (getD told 5 0) (getD told 6 0) (getD told 7 0) (getD told 8 0) (getD told 9 0))
 
 -- ---- the counters
 

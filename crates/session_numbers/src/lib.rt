@@ -99,11 +99,7 @@ pub fn told_of(told: &[u32]) -> Told
         number_at(told, 8),
         number_at(told, 9),
     );
-    Told {
-        geometry,
-        bits,
-        armed,
-    }
+    session::told_with(geometry, bits, armed)
 }
 
 // ---- the counters

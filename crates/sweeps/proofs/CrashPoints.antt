@@ -33,7 +33,7 @@ use Rattle.session.specs.declared.Armed.{Armed}
 use Rattle.threaded.specs.Threaded.{Session}
 use Rattle.script.specs.declared.Head.{Head}
 use Rattle.script.specs.Calls.{Call}
-use Rattle.writer.specs.Writer.{lineAnswered, wrote}
+use Rattle.steps.specs.Writer.{lineAnswered, wrote}
 use Rattle.ledger.specs.Ledger.{marksListed}
 use Rattle.held.specs.Held.{isWatchdog, isRelabelled, endOf, opsThrough, digestsThrough, marksThrough, sameThrough, heldNumber}
 use Rattle.held.proofs.Exact.{alike-equal, equal-alike}

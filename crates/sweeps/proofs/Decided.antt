@@ -21,7 +21,7 @@ use Rattle.threaded.specs.Threaded.{Session}
 use Rattle.script.specs.declared.Head.{Head}
 use Rattle.script.specs.Calls.{Call}
 use Rattle.script.specs.Script.{Script, script, refused, scriptOf}
-use Rattle.writer.specs.Writer.{Wrote, wrote}
+use Rattle.steps.specs.Writer.{Wrote, wrote}
 use Rattle.lines.specs.Lines.{Shown}
 use Rattle.sweeps.specs.Sweep.{toldBy, openedBy, runBy, shownBy, pointsOf, heldRun, pointNumber, pointRun, runs, notSwept, sweptUnless, sweptFrom, sweptBy, sweptScript, sweptOf}
 use Rattle.sweeps.specs.Decided.{rangeBehind, meets26, runShown, runsShown, decidedBy, decidedScript}

@@ -39,7 +39,7 @@ use Rattle.text.specs.Numbers.{isDigit, allDigits, valueFrom, isNumber, numberO
 use Rattle.text.specs.Pairs.{isLetter, isHex, allHex, isPairs, hexOf, pairValues, pairsText}
 use Rattle.threaded.specs.Threaded.{answered, threaded}
 use Rattle.held.specs.Held.{same, sameOp, sameLabel, below, sameThrough, heldNumber}
-use Rattle.writer.specs.Writer.{lineAnswered, wrote}
+use Rattle.steps.specs.Writer.{lineAnswered, wrote}
 use Rattle.sweeps.specs.Sweep.{sweepOutput}
 
 pub worked-example : sweepOutput (71 ∷ 9 ∷ 52 ∷ 9 ∷ 52 ∷ 9 ∷ 49 ∷ 9 ∷ 49 ∷ 9 ∷ 97 ∷ 9 ∷ 115 ∷ 10 ∷ 66 ∷ 9 ∷ 55 ∷ 10 ∷ 80 ∷ 9 ∷ 48 ∷ 9 ∷ 48 ∷ 48 ∷ 10 ∷ 83 ∷ 10 ∷ 78 ∷ 10 ∷ []) ≡ 114 ∷ 117 ∷ 110 ∷ 115 ∷ 9 ∷ 49 ∷ 49 ∷ 10 ∷ 48 ∷ 9 ∷ 45 ∷ 9 ∷ 45 ∷ 9 ∷ 45 ∷ 9 ∷ 45 ∷ 9 ∷ 50 ∷ 9 ∷ 55 ∷ 107 ∷ 10 ∷ 49 ∷ 9 ∷ 112 ∷ 9 ∷ 48 ∷ 9 ∷ 110 ∷ 9 ∷ 112 ∷ 9 ∷ 49 ∷ 9 ∷ 55 ∷ 97 ∷ 10 ∷ 50 ∷ 9 ∷ 112 ∷ 9 ∷ 48 ∷ 9 ∷ 97 ∷ 9 ∷ 112 ∷ 9 ∷ 49 ∷ 9 ∷ 55 ∷ 100 ∷ 10 ∷ 51 ∷ 9 ∷ 112 ∷ 9 ∷ 49 ∷ 9 ∷ 97 ∷ 9 ∷ 112 ∷ 9 ∷ 50 ∷ 9 ∷ 55 ∷ 107 ∷ 10 ∷ 52 ∷ 9 ∷ 119 ∷ 9 ∷ 48 ∷ 9 ∷ 110 ∷ 9 ∷ 119 ∷ 9 ∷ 49 ∷ 9 ∷ 55 ∷ 97 ∷ 10 ∷ 53 ∷ 9 ∷ 119 ∷ 9 ∷ 48 ∷ 9 ∷ 97 ∷ 9 ∷ 119 ∷ 9 ∷ 49 ∷ 9 ∷ 55 ∷ 100 ∷ 10 ∷ 54 ∷ 9 ∷ 119 ∷ 9 ∷ 49 ∷ 9 ∷ 110 ∷ 9 ∷ 119 ∷ 9 ∷ 50 ∷ 9 ∷ 55 ∷ 100 ∷ 10 ∷ 55 ∷ 9 ∷ 119 ∷ 9 ∷ 49 ∷ 9 ∷ 97 ∷ 9 ∷ 119 ∷ 9 ∷ 50 ∷ 9 ∷ 55 ∷ 100 ∷ 10 ∷ 56 ∷ 9 ∷ 102 ∷ 9 ∷ 48 ∷ 9 ∷ 110 ∷ 9 ∷ 45 ∷ 9 ∷ 49 ∷ 9 ∷ 55 ∷ 97 ∷ 10 ∷ 57 ∷ 9 ∷ 102 ∷ 9 ∷ 48 ∷ 9 ∷ 97 ∷ 9 ∷ 45 ∷ 9 ∷ 49 ∷ 9 ∷ 55 ∷ 100 ∷ 10 ∷ 49 ∷ 48 ∷ 9 ∷ 102 ∷ 9 ∷ 49 ∷ 9 ∷ 110 ∷ 9 ∷ 45 ∷ 9 ∷ 50 ∷ 9 ∷ 55 ∷ 100 ∷ 10 ∷ []

@@ -27,7 +27,7 @@ use Rattle.threaded.specs.Threaded.{Session, Answered}
 use Rattle.threaded.proofs.Alike.{MarksLong, marks-long}
 use Rattle.script.specs.declared.Head.{Head}
 use Rattle.script.specs.Calls.{Call, begin, end, mark, program, erase, barrier}
-use Rattle.writer.specs.Writer.{lineAnswered}
+use Rattle.steps.specs.Writer.{lineAnswered}
 use Rattle.sweeps.specs.Sweep.{toldBy}
 use Rattle.sweeps.proofs.Below.{clipped, clipped-far, Same, same-stored, seen, seen-same, shownAll, Room, seen-stored}
 use Rattle.sweeps.proofs.OneLine.{isOp, notesOf, note-line, OpView, refuses, takes, op-view}

@@ -38,7 +38,7 @@ use Rattle.session_program.proofs.Laws.{program-refuses, program-takes}
 use Rattle.threaded.specs.Threaded.{Session, Answered, afterWrite, afterBarrier, afterMark}
 use Rattle.script.specs.declared.Head.{Head}
 use Rattle.script.specs.Calls.{Call, begin, end, mark, program, erase, barrier}
-use Rattle.writer.specs.Writer.{lineAnswered}
+use Rattle.steps.specs.Writer.{lineAnswered}
 use Rattle.sweeps.specs.Sweep.{toldBy}
 
 -- ---- lines that mark

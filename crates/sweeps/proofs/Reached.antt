@@ -32,7 +32,7 @@ use Rattle.held.specs.Held.{below}
 use Rattle.threaded.specs.Threaded.{Session}
 use Rattle.script.specs.declared.Head.{Head}
 use Rattle.script.specs.Calls.{Call, begin, end, mark, program, erase, barrier}
-use Rattle.writer.specs.Writer.{lineAnswered, Wrote, wrote}
+use Rattle.steps.specs.Writer.{lineAnswered, Wrote, wrote}
 use Rattle.sweeps.specs.Sweep.{toldBy}
 use Rattle.sweeps.specs.Decided.{rangeBehind}
 use Rattle.sweeps.proofs.Below.{read, shownAll}

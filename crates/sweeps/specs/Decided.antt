@@ -11,7 +11,7 @@ use Rattle.script.specs.declared.Head.{Head}
 use Rattle.script.specs.Calls.{Call, begin, end, mark, program, erase, barrier}
 use Rattle.script.specs.Script.{Script, script, refused}
 use Rattle.threaded.specs.Threaded.{Session}
-use Rattle.writer.specs.Writer.{Wrote}
+use Rattle.steps.specs.Writer.{Wrote}
 use Rattle.lines.specs.Lines.{Shown}
 use Rattle.sweeps.specs.Sweep.{runBy, shownBy, pointsOf, Swept, runs, notSwept}
 

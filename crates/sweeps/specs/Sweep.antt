@@ -15,13 +15,14 @@ use Rattle.inject.specs.Points.{injectionsOf}
 use Rattle.session.specs.declared.Told.{Told}
 use Rattle.session.specs.declared.Armed.{Armed}
 use Rattle.session.specs.declared.Armed.the-variants.{Nothing, At}
+use Rattle.session.specs.Armed.{toldWith}
 use Rattle.session.specs.Log.{logOf, marksOf}
 use Rattle.session.specs.Start.{fresh}
 use Rattle.threaded.specs.Threaded.{Session, sessionLedger}
 use Rattle.script.specs.declared.Head.{Head}
 use Rattle.script.specs.Calls.{Call}
 use Rattle.script.specs.Script.{Script, script, refused, scriptOf}
-use Rattle.writer.specs.Writer.{Wrote, wrote}
+use Rattle.steps.specs.Writer.{Wrote, wrote}
 use Rattle.held.specs.Held.{Recorded, recordedOf, isRelabelled, heldNumber}
 use Rattle.lines.specs.Lines.{Shown, sweepText, judgeText, refusedText}
 
@@ -31,9 +32,9 @@ ruleOf true = Rejected
 ruleOf false = Absorbed
 
 abbrev pub toldBy : Head → Armed → Told
-toldBy h a = record { geometry = h .geometry; bits = ruleOf (h .rejected); armed = a }
+toldBy h a = toldWith (h .geometry) (ruleOf (h .rejected)) a
 
--- a session as a start leaves it; the copy is filled with 0xFF and the columns with zeros, as a script's run clears them
+-- a session as a start leaves it, over a copy and columns of zeros
 abbrev pub openedBy : Head → Session
 openedBy h =
     let column : List ℕ = replicate 1024 0 in
@@ -41,7 +42,7 @@ openedBy h =
     record {
       counters = fresh;
       media = newMedia (h .geometry .capacity);
-      copy = newMedia (h .geometry .capacity);
+      copy = replicate (h .geometry .capacity) 0;
       log = logOf column column column column column column;
       marks = marksOf marks marks marks;
     }

@@ -40,7 +40,7 @@ use Rattle.session_program.specs.Program.{spanNumber, bitTest, programNumber, p
 use Rattle.threaded.specs.Threaded.{Session}
 use Rattle.script.specs.declared.Head.{Head}
 use Rattle.script.specs.Calls.{Call, begin, end, mark, program, erase, barrier}
-use Rattle.writer.specs.Writer.{lineAnswered, Wrote, wrote}
+use Rattle.steps.specs.Writer.{lineAnswered, Wrote, wrote}
 use Rattle.sweeps.specs.Sweep.{toldBy, openedBy, runBy, pointsOf}
 use Rattle.text_of_runs.specs.Steady.{Steady}
 use Rattle.text_of_runs.proofs.Codes.{and-left, and-right, set-known, take-known, zeros-known}

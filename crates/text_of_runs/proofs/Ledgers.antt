@@ -1,17 +1,20 @@
 -- The ledger of a script's run is never refused, and its columns hold it.
---     opened-is        a session over columns as long as the programs' is the opened one, once they are cleared
+--     cells-long       media of zeros are of capacity length
+--     opened-is        a session over columns of zeros is the opened one
 --     codes-known      every code among those counted has a meaning, after any script's run
 --     ledger-passes    no number refuses its ledger
 --     few-entries      it has at most 512 entries
 --     run-ended        so a run that its rows do not refuse ends
 --     run-reads        and the first rows of the ledger's columns are the ledger
 -- Assumes nothing.
-use mathlib.Core.Path.{_≡_, ap, _∙_}
+use mathlib.Core.Path.{_≡_, refl, ap, _∙_}
 use mathlib.Core.Bool.{true, false}
-use mathlib.Core.List.{List, []}
-use Prim.Native.Nat.{ℕ, _≤_}
+use mathlib.Core.List.{List, [], _∷_}
+use Prim.Native.Nat.{ℕ, zero, suc, _≤_}
 use native.Mathlib.Nat.{le-trans}
-use lib.ListN.{length, replicate}
+use native.Mathlib.Omega.{arith}
+use lib.ListN.{length, take, replicate, length-replicate}
+use lib.Seq.{length-take-le}
 use lib.Dec.{leb}
 use borrow.Author.Tests.{eq-eqb, le-leb, le-ltb}
 use Rattle.basics.specs.Tests.{unless, refuseIf, firstOf}
@@ -19,11 +22,11 @@ use Rattle.device.specs.Media.{newMedia}
 use Rattle.model.specs.Ledger.{Entry}
 use Rattle.session.specs.declared.Armed.{Armed}
 use Rattle.session.specs.declared.Told.{Told}
-use Rattle.session.specs.Log.{Log, logOf, Marks, marksOf}
+use Rattle.session.specs.Log.{logOf, marksOf}
 use Rattle.session.specs.Tests.{sizeTest, logUnevenOf, marksUnevenOf}
 use Rattle.session.specs.Start.{fresh}
 use Rattle.ledger.specs.declared.Derived.the-variants.{Entries}
-use Rattle.ledger.specs.Ledger.{codesKnown, countsShort, ledgerNumber, entriesUneven, Entered, entered, ledgered, ledgerCall}
+use Rattle.ledger.specs.Ledger.{codesKnown, countsShort, ledgerNumber, entriesUneven, entered, ledgered, ledgerCall}
 use Rattle.ledger.proofs.Readback.{firstRows, ledgerIn, refusedIn, reads-back}
 use Rattle.ledger.proofs.Sanity.{ledger-few}
 use Rattle.threaded.specs.Threaded.{Session, sessionLedger, sessionLedgered}
@@ -31,38 +34,38 @@ use Rattle.script.specs.declared.Head.{Head}
 use Rattle.script.specs.Calls.{Call}
 use Rattle.script.specs.Columns.{Columns}
 use Rattle.script.specs.Held.{callsIn}
-use Rattle.cleared.specs.Cleared.{clearedLog, clearedMarks}
-use Rattle.writer.specs.Writer.{wrote}
+use Rattle.steps.specs.Writer.{Wrote, wrote}
 use Rattle.sweeps.specs.Sweep.{toldBy, openedBy, runBy}
-use Rattle.harness_runs.specs.declared.RunAt.the-variants.{Ended}
-use Rattle.harness_runs.specs.Running.{runAtNumber, RanAt, ranAt, ranAs, ranWith, runAtCall}
+use Rattle.harness_runs.specs.declared.Ran.the-variants.{Ended}
+use Rattle.harness_runs.specs.Running.{zeros, RunLeft, runLeft, leftBy, ledgeredWith, opening, runNumber, runCall, noEntries, cells, ranOn}
 use Rattle.text_of_runs.specs.Steady.{Steady}
-use Rattle.text_of_runs.specs.Lent.{Desk, Book}
 use Rattle.text_of_runs.proofs.Codes.{take-known}
 use Rattle.text_of_runs.proofs.Steady.{run-steady}
 
--- ---- cleared columns
+-- ---- columns of zeros
 
-zeros-of : (xs : List ℕ) (n : ℕ) → length xs ≡ n → replicate {A = ℕ} (length xs) 0 ≡ replicate n 0
-zeros-of xs n e = ap (λ (k : ℕ). replicate {A = ℕ} k 0) e
+zeros-long : (n : ℕ) → length (zeros n) ≡ n
+unfolding zeros
+zeros-long n = length-replicate {A = ℕ} n 0
 
--- what a run starts from is the opened session, whatever the columns held
-pub opened-is : (h : Head) (media copy : List ℕ) (l : Log) (m : Marks) → Desk (h .geometry .capacity) media copy l m
-    → _≡_ {A = Session}
-    (record { counters = fresh; media = newMedia (length media); copy = newMedia (length copy); log = clearedLog l; marks = clearedMarks m }) (openedBy h)
-opened-is h media copy l m z =
-    let a : newMedia (length media) ≡ newMedia (h .geometry .capacity) = ap newMedia (z .media-long) in
-    let b : newMedia (length copy) ≡ newMedia (h .geometry .capacity) = ap newMedia (z .copy-long) in
-    let c = zeros-of (l .kinds) 1024 (z .kinds-long) in
-    let d = zeros-of (l .offsets) 1024 (z .offsets-long) in
-    let e = zeros-of (l .lens) 1024 (z .lens-long) in
-    let f = zeros-of (l .digests) 1024 (z .digests-long) in
-    let g = zeros-of (l .changed) 1024 (z .changed-long) in
-    let k = zeros-of (l .answered) 1024 (z .answered-long) in
-    let p = zeros-of (m .codes) 512 (z .codes-long) in
-    let q = zeros-of (m .ids) 512 (z .ids-long) in
-    let r = zeros-of (m .places) 512 (z .places-long) in
-    λ i. record { counters = fresh; media = a i; copy = b i; log = logOf (c i) (d i) (e i) (f i) (g i) (k i); marks = marksOf (p i) (q i) (r i) }
+-- media and copy of capacity length
+pub cells-long : (h : Head) → h .geometry .capacity ≤ 16384 → length (cells h) ≡ h .geometry .capacity
+cells-long h small = length-take-le (h .geometry .capacity) (zeros 16384) (rw (zeros-long 16384) small)
+
+-- what a run starts from is the opened session
+pub opened-is : (h : Head) → h .geometry .capacity ≤ 16384 → opening (cells h) (cells h) (zeros 1024) (zeros 1024) (zeros 1024) ≡ openedBy h
+unfolding zeros
+opened-is h small =
+    let a : newMedia (length (cells h)) ≡ newMedia (h .geometry .capacity) = ap newMedia (cells-long h small) in
+    let b : cells h ≡ replicate (h .geometry .capacity) 0 = few (h .geometry .capacity) 16384 small in
+    let column : List ℕ = replicate 1024 0 in
+    let marks : List ℕ = replicate 512 0 in
+    λ i. record { counters = fresh; media = a i; copy = b i; log = logOf column column column column column column; marks = marksOf marks marks marks }
+  where
+    few : (m n : ℕ) → m ≤ n → take {A = ℕ} m (replicate n 0) ≡ replicate m 0
+    few zero n w = refl
+    few (suc m) zero w = absurd (omega arith)
+    few (suc m) (suc n) w = ap (λ (xs : List ℕ). 0 ∷ xs) (few m n (omega arith))
 
 -- ---- no number refuses the ledger
 
@@ -102,24 +105,23 @@ module _ (t : Told) (s : Session) (z : Steady (t .geometry .capacity) s) where
       let m = z .marks-steady in
       rw (m .codes-long, m .ids-long, m .places-long)
 
-  module _ (e : Entered) (w : Book e) where
-    entries-even : entriesUneven (length (e .ids)) (length (e .states)) (length (e .torn)) ≡ false
-    entries-even = rw (w .ids-long, w .states-long, w .torn-long)
+  entries-even : entriesUneven (length (noEntries .ids)) (length (noEntries .states)) (length (noEntries .torn)) ≡ false
+  entries-even = rw (zeros-long 512)
 
-    -- at most as many entries as marks
-    ledger-fits : leb (length (sessionLedger t s)) (length (e .ids)) ≡ true
-    ledger-fits =
-        rw (w .ids-long) (le-leb _ _ (le-trans (ledger-few t (s .counters) (s .media) (s .copy) (s .log) (s .marks)) (z .few-marks)))
+  -- at most as many entries as marks
+  ledger-fits : leb (length (sessionLedger t s)) (length (noEntries .ids)) ≡ true
+  ledger-fits =
+      rw (zeros-long 512) (le-leb _ _ (le-trans (ledger-few t (s .counters) (s .media) (s .copy) (s .log) (s .marks)) (z .few-marks)))
 
-    -- a steady session's ledger is not refused: sizes, lengths, codes and counts all pass, and the ledger fits 512 rows
-    pub ledger-passes : ledgerNumber t (s .counters) (s .media) (s .copy) (s .log) (s .marks) (length (e .ids)) (length (e .states)) (length (e .torn)) ≡ 0
-    unfolding ledgerNumber firstOf unless refuseIf
-    ledger-passes = rw (sizes-pass, log-even, marks-even, entries-even, codes-steady, counts-long, ledger-fits)
+  -- a steady session's ledger is not refused: sizes, lengths, codes and counts all pass, and the ledger fits 512 rows
+  pub ledger-passes : ledgerNumber t (s .counters) (s .media) (s .copy) (s .log) (s .marks) (length (noEntries .ids)) (length (noEntries .states)) (length (noEntries .torn)) ≡ 0
+  unfolding ledgerNumber firstOf unless refuseIf
+  ledger-passes = rw (sizes-pass, log-even, marks-even, entries-even, codes-steady, counts-long, ledger-fits)
 
-    -- so `ledger` answers how many entries there are, and leaves them in the first rows
-    pub ledger-is : sessionLedgered t s e ≡ ledgered (Entries (length (sessionLedger t s))) (entered (sessionLedger t s) e)
-    unfolding ledgerCall
-    ledger-is = rw ledger-passes
+  -- so `ledger` answers how many entries there are, and leaves them in the first rows
+  pub ledger-is : sessionLedgered t s noEntries ≡ ledgered (Entries (length (sessionLedger t s))) (entered (sessionLedger t s) noEntries)
+  unfolding ledgerCall
+  ledger-is = rw ledger-passes
 
 -- ---- after any script's run
 
@@ -136,32 +138,36 @@ few-entries h xs a =
 
 -- ---- a run that its rows do not refuse
 
-module _ (h : Head) (a : Armed) (rows : ℕ) (k : Columns) (xs : List Call) (holds : callsIn rows k ≡ xs) (media copy : List ℕ) (l : Log) (m : Marks) (e : Entered) (z : Desk (h .geometry .capacity) media copy l m)
-    (w : Book e) (none : runAtNumber h rows k (length media) (length copy) l m e ≡ 0) where
+module _ (h : Head) (a : Armed) (rows : ℕ) (k : Columns) (xs : List Call) (holds : callsIn rows k ≡ xs) (small : h .geometry .capacity ≤ 16384)
+    (none : runNumber h rows k (length (cells h)) (length (cells h)) ≡ 0) where
   -- the script's run
+  abbrev wrote-all : Wrote
+  wrote-all = runBy h xs a
+
   abbrev ran : Session
-  ran = runBy h xs a .session
+  ran = wrote-all .session
 
   abbrev entries : List Entry
   entries = sessionLedger (toldBy h a) ran
 
-  at-call : runAtCall h a rows k media copy l m e ≡ ranWith (toldBy h a) ran e
-  unfolding runAtCall runBy
+  at-call : ranOn h a rows k ≡ ledgeredWith (toldBy h a) wrote-all noEntries
+  unfolding ranOn runCall runBy
   at-call =
       rw (none, holds)
-      (ap (λ (s : Session). ranWith (toldBy h a) (wrote (toldBy h a) (h .«carries_on») s xs .session) e) (opened-is h media copy l m z))
+      (ap (λ (s : Session). ledgeredWith (toldBy h a) (wrote (toldBy h a) (h .«carries_on») s xs) noEntries) (opened-is h small))
 
-  abbrev left : RanAt
-  left = ranAt (Ended (ran .counters .stop) (ran .counters .operations) (length entries)) (ran .media) (ran .copy) (ran .log) (ran .marks) (entered entries e)
+  abbrev left : RunLeft
+  left =
+      runLeft (Ended (ran .counters .stop) (ran .counters .operations) (length entries) (wrote-all .failed)) (ran .media) (ran .copy) (ran .log .kinds) (ran .log .offsets) (ran .log .lens) (entered entries noEntries)
 
   -- the run ends, with the stop, the operations and the entries of the script's run
-  pub run-ended : runAtCall h a rows k media copy l m e ≡ left
-  run-ended = at-call ∙ ap (ranAs ran) (ledger-is (toldBy h a) ran (run-steady h xs a) e w)
+  pub run-ended : ranOn h a rows k ≡ left
+  run-ended = at-call ∙ ap (leftBy wrote-all) (ledger-is (toldBy h a) ran (run-steady h xs a))
 
   -- the first rows of the ledger's columns
-  pub run-reads : (ledgerIn (firstRows (length entries) (runAtCall h a rows k media copy l m e .entries)) ≡ entries)
-      × (refusedIn (firstRows (length entries) (runAtCall h a rows k media copy l m e .entries)) ≡ 0)
+  pub run-reads : (ledgerIn (firstRows (length entries) (ranOn h a rows k .entries)) ≡ entries)
+      × (refusedIn (firstRows (length entries) (ranOn h a rows k .entries)) ≡ 0)
   run-reads =
       rw run-ended
-      (reads-back (toldBy h a) (ran .counters) (ran .media) (ran .copy) (ran .log) (ran .marks) e (length entries) (entered entries e)
-      (ledger-is (toldBy h a) ran (run-steady h xs a) e w))
+      (reads-back (toldBy h a) (ran .counters) (ran .media) (ran .copy) (ran .log) (ran .marks) noEntries (length entries) (entered entries noEntries)
+      (ledger-is (toldBy h a) ran (run-steady h xs a)))

@@ -21,26 +21,23 @@ use Rattle.inject.specs.Points.{opening}
 use Rattle.inject.specs.Answers.{listTest, counted, found}
 use Rattle.session.specs.declared.Armed.{Armed}
 use Rattle.session.specs.declared.Armed.the-variants.{Nothing, At}
-use Rattle.session.specs.Log.{Log, Marks}
 use Rattle.threaded.specs.Threaded.{Session}
 use Rattle.script.specs.declared.Head.{Head}
 use Rattle.script.specs.Calls.{Call}
 use Rattle.script.specs.Columns.{Columns}
 use Rattle.script.specs.Held.{callsIn}
-use Rattle.writer.specs.Writer.{wrote}
-use Rattle.writer.specs.Run.{doneWith, runNumber, runCall}
-use Rattle.sweeps.specs.Sweep.{toldBy, runBy, pointsOf}
+use Rattle.sweeps.specs.Sweep.{runBy, pointsOf}
 use Rattle.sweeps.specs.Decided.{meets26, runShown, runsShown}
 use Rattle.harness.specs.declared.Opened.{Opened}
 use Rattle.harness.specs.declared.Opened.the-variants.{Runs, NotSwept}
 use Rattle.armed_runs.specs.declared.Placed.the-variants.{Run}
-use Rattle.harness.specs.Opening.{openPoints, OpenLeft, openLeft, openedWith, openCall}
+use Rattle.harness_runs.specs.Running.{runNumber, cells, ranOn}
+use Rattle.harness.specs.Opening.{openPoints, OpenLeft, openLeft, openedWith, openCall, openOn}
 use Rattle.armed_runs.specs.Places.{armedBy, freeBy, placedAt}
 use Rattle.text_of_runs.specs.Steady.{Steady}
-use Rattle.text_of_runs.specs.Lent.{Desk}
 use Rattle.text_of_runs.proofs.Codes.{take-known, kinds-known}
 use Rattle.text_of_runs.proofs.Steady.{run-steady}
-use Rattle.text_of_runs.proofs.Ledgers.{opened-is}
+use Rattle.text_of_runs.proofs.Ledgers.{run-ended}
 
 module _ (h : Head) (xs : List Call) (passes : geometryTest (h .geometry) ≡ 0) where
   -- the fault-free run, and the operations that it recorded
@@ -96,29 +93,22 @@ module _ (h : Head) (xs : List Call) (passes : geometryTest (h .geometry) ≡ 0)
 
   abbrev pub left : OpenLeft
   left =
-      openLeft (replyBy (runBy h xs Nothing .failed) (meets26 h xs)) (faultFree .media) (faultFree .copy) (faultFree .log) (faultFree .marks)
+      openLeft (replyBy (runBy h xs Nothing .failed) (meets26 h xs)) (faultFree .media) (faultFree .copy) (faultFree .log .kinds) (faultFree .log .offsets) (faultFree .log .lens)
 
   points-open : openPoints h operations xs (faultFree .log .kinds) (faultFree .log .offsets) (faultFree .log .lens)
       ≡ cond (meets26 h xs) (NotSwept 26) (Runs operations (length points))
   unfolding openPoints
   points-open = rw counted-is
 
-  done-is : openedWith h xs (doneWith (runBy h xs Nothing)) ≡ left
-  done-is =
-      ap (λ (o : Opened). openLeft (cond (runBy h xs Nothing .failed) (NotSwept 24) o) (faultFree .media) (faultFree .copy) (faultFree .log) (faultFree .marks)) points-open
-
-  module _ (rows : ℕ) (k : Columns) (holds : callsIn rows k ≡ xs) (media copy : List ℕ) (l : Log) (m : Marks) (z : Desk (h .geometry .capacity) media copy l m)
-      (none : runNumber (toldBy h Nothing) rows k (length media) (length copy) l m ≡ 0) where
-    run-is : runCall (toldBy h Nothing) (h .«carries_on») rows k media copy l m ≡ doneWith (runBy h xs Nothing)
-    unfolding runCall runBy
-    run-is =
-        rw (none, holds)
-        (ap (λ (s : Session). doneWith (wrote (toldBy h Nothing) (h .«carries_on») s xs)) (opened-is h media copy l m z))
-
-    -- whatever the columns held, opening leaves the fault-free run, and answers 24, 26 or how many operations and crash points there are
-    pub open-is : openCall h rows k media copy l m ≡ left
-    unfolding openCall
-    open-is = rw (holds, run-is) done-is
+  module _ (rows : ℕ) (k : Columns) (holds : callsIn rows k ≡ xs) (small : h .geometry .capacity ≤ 16384)
+      (none : runNumber h rows k (length (cells h)) (length (cells h)) ≡ 0) where
+    -- opening leaves the fault-free run, and answers 24, 26 or how many operations and crash points there are
+    pub open-is : openOn h rows k ≡ left
+    unfolding openOn openCall ranOn
+    open-is =
+        ap (openedWith h (callsIn rows k)) (run-ended h Nothing rows k xs holds small none)
+        ∙ rw holds
+        (ap (λ (o : Opened). openLeft (cond (runBy h xs Nothing .failed) (NotSwept 24) o) (faultFree .media) (faultFree .copy) (faultFree .log .kinds) (faultFree .log .offsets) (faultFree .log .lens)) points-open)
 
   -- ---- the run at a place
 

@@ -1,7 +1,7 @@
 -- The rows that reading a script writes are never refused by a run.
 --     head-passes     line 1 of a script that was read has a geometry that passes
 --     head-small      and a capacity of at most 16,384
---     rows-pass       nor do its rows refuse a run that is lent columns long enough
+--     rows-pass       nor do its rows refuse a run
 -- Assumes nothing.
 use mathlib.Core.Path.{_≡_, refl, sym, ap, _∙_}
 use mathlib.Core.Bool.{Bool, true, false, cond, _&&_}
@@ -15,6 +15,7 @@ use borrow.Author.Tests.{leb-true, eqb-true, le-ltb, eq-eqb}
 use Rattle.basics.specs.Tests.{unless, refuseIf, firstOf}
 use Rattle.basics.proofs.Tests.{unless-zero, firstOf-zero}
 use Rattle.storage.specs.Geometry.{geometryTest}
+use Rattle.model.specs.Columns.{allUpTo}
 use Rattle.session.specs.Tests.{sizeTest}
 use Rattle.text.specs.Lines.{TextLine, linesOf}
 use Rattle.text.specs.Pairs.{over}
@@ -24,8 +25,8 @@ use Rattle.script.specs.First.{FirstLine, given, noHead, firstOfLine, headTest}
 use Rattle.script.specs.Script.{Script, script, refused, withCalls, withFirst, withLines, scriptOf}
 use Rattle.script.specs.Columns.{Columns, kindOf, firstIn, secondIn, thirdIn, bytesIn, startsOf, bytesOf, written}
 use Rattle.script.proofs.Enough.{enough}
-use Rattle.rows.specs.Tests.{anyOutside, lengthsNumber}
-use Rattle.script_rows.specs.Rows.{isLetter, allLetters, rowsUnevenOf, runContents, rowsNumber}
+use Rattle.rows.specs.Rows.{rowsUnevenOf, anyOutside, lengthsNumber, contentsNumber, rowsNumber}
+use Rattle.harness_runs.specs.Running.{runNumber}
 use Rattle.text_of_runs.specs.Lent.{Sheet}
 
 -- ---- line 1
@@ -66,21 +67,21 @@ head-small text h cs e =
 
 -- ---- the rows
 
-letter-known : (x : Call) → isLetter (kindOf x) ≡ true
-letter-known (begin id) = refl
-letter-known end = refl
-letter-known (mark id from to) = refl
-letter-known (program offset bytes) = refl
-letter-known (erase offset count) = refl
-letter-known barrier = refl
+kind-known : (x : Call) → leb (kindOf x) 5 ≡ true
+kind-known (begin id) = refl
+kind-known end = refl
+kind-known (mark id from to) = refl
+kind-known (program offset bytes) = refl
+kind-known (erase offset count) = refl
+kind-known barrier = refl
 
-letters-known : (xs : List Call) → allLetters (map kindOf xs) ≡ true
-unfolding allLetters
-letters-known [] = refl
-letters-known (x ∷ xs) = rw (letter-known x) (letters-known xs)
+kinds-known : (xs : List Call) → allUpTo 5 (map kindOf xs) ≡ true
+unfolding allUpTo
+kinds-known [] = refl
+kinds-known (x ∷ xs) = rw (kind-known x) (kinds-known xs)
 
 -- a program's bytes are in the pool
-one-inside : (pool start : ℕ) (x : Call) → start + length (bytesIn x) ≤ pool → (eqb (kindOf x) 80 && ltb pool (start + secondIn x)) ≡ false
+one-inside : (pool start : ℕ) (x : Call) → start + length (bytesIn x) ≤ pool → (eqb (kindOf x) 0 && ltb pool (start + secondIn x)) ≡ false
 one-inside pool start (begin id) h = refl
 one-inside pool start end h = refl
 one-inside pool start (mark id from to) h = refl
@@ -88,7 +89,7 @@ one-inside pool start (program offset bytes) h = le-ltb pool (start + length byt
 one-inside pool start (erase offset count) h = refl
 one-inside pool start barrier h = refl
 
-all-inside : (pool start : ℕ) (xs : List Call) → start + length (bytesOf xs) ≤ pool → anyOutside 80 pool (map kindOf xs) (map secondIn xs) (startsOf start xs) ≡ false
+all-inside : (pool start : ℕ) (xs : List Call) → start + length (bytesOf xs) ≤ pool → anyOutside pool (map kindOf xs) (map secondIn xs) (startsOf start xs) ≡ false
 unfolding anyOutside startsOf bytesOf
 all-inside pool start [] h = refl
 all-inside pool start (x ∷ xs) h =
@@ -145,26 +146,23 @@ module _ (text : List ℕ) (h : Head) (xs : List Call) (e : scriptOf text ≡ sc
   unfolding written
   first-starts = take-at (startsOf 0 xs) (drop (length (startsOf 0 xs)) (k .starts)) (length xs) (length-starts 0 xs)
 
-  rows-inside : anyOutside 80 (length (written xs k .pool)) (take (length xs) (written xs k .kinds)) (take (length xs) (written xs k .seconds)) (take (length xs) (written xs k .starts)) ≡ false
+  rows-inside : anyOutside (length (written xs k .pool)) (take (length xs) (written xs k .kinds)) (take (length xs) (written xs k .seconds)) (take (length xs) (written xs k .starts)) ≡ false
   rows-inside =
       rw (sheet-kept .pool-long, first-kinds, first-seconds, first-starts)
       (all-inside 32768 0 xs (let b = enough text h xs e .bytes in omega arith))
 
-  -- the geometry and every row pass: letters with a meaning, and each program's bytes in the pool
-  pub rows-pass : (media copy : ℕ) → media ≡ h .geometry .capacity → copy ≡ h .geometry .capacity → (uneven short : Bool) → uneven ≡ false → short ≡ false
-      → rowsNumber (h .geometry) media copy uneven short (length xs) (written xs k) ≡ 0
-  unfolding rowsNumber lengthsNumber runContents sizeTest firstOf unless refuseIf
-  rows-pass media copy p q uneven short u v =
+  -- the geometry and every row pass: kinds with a meaning, and each program's bytes in the pool
+  pub rows-pass : (media copy : ℕ) → media ≡ h .geometry .capacity → copy ≡ h .geometry .capacity → runNumber h (length xs) (written xs k) media copy ≡ 0
+  unfolding rowsNumber lengthsNumber contentsNumber sizeTest firstOf unless refuseIf
+  rows-pass media copy p q =
       rw (
-        u,
-        v,
         head-passes text h xs e,
         eq-eqb media (h .geometry .capacity) p,
         eq-eqb copy (h .geometry .capacity) q,
         rows-even,
         rows-inside,
         first-kinds,
-        letters-known xs,
+        kinds-known xs,
         sheet-kept .kinds-long,
         le-ltb 32768 (length xs) few,
       )

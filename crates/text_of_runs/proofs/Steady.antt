@@ -37,7 +37,7 @@ use Rattle.threaded.specs.Threaded.{Session, afterWrite, afterBarrier, afterMar
 use Rattle.threaded.proofs.Cells.{length-overlaid, overlaid-none}
 use Rattle.script.specs.declared.Head.{Head}
 use Rattle.script.specs.Calls.{Call, begin, end, mark, program, erase, barrier}
-use Rattle.writer.specs.Writer.{lineAnswered, Wrote, wrote}
+use Rattle.steps.specs.Writer.{lineAnswered, Wrote, wrote}
 use Rattle.sweeps.specs.Sweep.{toldBy, openedBy, runBy}
 use Rattle.text_of_runs.specs.Steady.{LogSteady, MarksSteady, Steady}
 use Rattle.text_of_runs.proofs.Codes.{set-known, zeros-known, flag-known}
@@ -229,7 +229,7 @@ wrote-steady t co capacity (x ∷ xs) s z =
 pub opened-steady : (h : Head) → Steady (h .geometry .capacity) (openedBy h)
 opened-steady h = record {
   media-long = length-replicate (h .geometry .capacity) ff;
-  copy-long = length-replicate (h .geometry .capacity) ff;
+  copy-long = length-replicate {A = ℕ} (h .geometry .capacity) 0;
   few-operations = zero-le;
   few-marks = zero-le;
   log-steady = record {

@@ -3,7 +3,7 @@
 --     printed        the three ways of a program
 -- Assumes nothing.
 use mathlib.Core.Path.{_≡_, refl, sym, ap, ap₂, _∙_}
-use mathlib.Core.Bool.{Bool, true, false, _||_}
+use mathlib.Core.Bool.{Bool, true, false}
 use mathlib.Core.List.{List, [], _∷_, _++_, append-nil, flatten}
 use Prim.Native.Nat.{ℕ, suc, _+_, _≤_, _<_}
 use native.Mathlib.Nat.{add-zero, le-trans}
@@ -13,9 +13,7 @@ use Rattle.storage.specs.Geometry.{geometryTest}
 use Rattle.model.specs.Answers.{Written}
 use Rattle.session.specs.declared.Armed.{Armed}
 use Rattle.session.specs.declared.Armed.the-variants.{Nothing}
-use Rattle.session.specs.Log.{Log, Marks}
-use Rattle.session.specs.Tests.{logUnevenOf, marksUnevenOf, logShort, marksShort}
-use Rattle.ledger.specs.Ledger.{Entered, entriesUneven}
+use Rattle.ledger.specs.Ledger.{Entered}
 use Rattle.ledger.proofs.Readback.{ledgerIn, refusedIn}
 use Rattle.threaded.specs.Threaded.{Session}
 use Rattle.script.specs.declared.Head.{Head}
@@ -31,12 +29,13 @@ use Rattle.lines.specs.Lines.{Shown, sweepLine, judgeLine, runsLine, refusedTex
 use Rattle.sweeps.specs.Sweep.{runBy, pointsOf, Swept, runs, notSwept, sweptOf, printedBy}
 use Rattle.sweeps.specs.Decided.{meets26, runShown, runsShown, decidedBy, decidedScript}
 use Rattle.sweeps.proofs.Decided.{swept-script}
-use Rattle.harness_runs.specs.Running.{RanAt, runAtNumber, runAtCall}
-use Rattle.text_of_runs.specs.Lent.{Sheet, Desk, Book}
+use Rattle.harness.specs.Opening.{openOn}
+use Rattle.harness_runs.specs.Running.{RunLeft, runNumber, cells, ranOn}
+use Rattle.text_of_runs.specs.Lent.{Sheet}
 use Rattle.text_of_runs.specs.Printout.{linesOfRuns, linesBy, sweepLines, judgeLines}
-use Rattle.text_of_runs.specs.Claim.{rowsTo, RunPrinted, PlacePrinted, Opens, SweepPrinted, Claim, runLines, Outputs, Printed, unread, unswept, swept}
+use Rattle.text_of_runs.specs.Claim.{rowsTo, RunPrinted, PlacePrinted, SweepPrinted, Claim, runLines, Outputs, Printed, unread, unswept, swept}
 use Rattle.text_of_runs.proofs.Sheets.{head-passes, head-small, rows-pass}
-use Rattle.text_of_runs.proofs.Ledgers.{run-ended, run-reads, few-entries}
+use Rattle.text_of_runs.proofs.Ledgers.{cells-long, run-ended, run-reads, few-entries}
 use Rattle.text_of_runs.proofs.RunLines.{suggested-few, sweep-written, judge-history, history-first, judge-written}
 use Rattle.text_of_runs.proofs.Steady.{run-steady}
 use Rattle.text_of_runs.proofs.Counts.{points-few}
@@ -58,32 +57,6 @@ module _ (f : ℕ → Shown → List ℕ) (line : ℕ → List ℕ) (d : Shown) 
 
   pub lines-are : (rs : List Shown) → ((i : ℕ) → i < length rs → f i (getD rs i d) ≡ line i) → linesOfRuns f 0 rs ≡ runLines line (length rs) 0
   lines-are rs e = lines-from rs 0 (λ i b. let s : 0 + i ≡ i = omega arith in rw s (e i b))
-
--- ---- what is lent is even and long enough
-
-module _ (capacity : ℕ) (media copy : List ℕ) (l : Log) (m : Marks) (z : Desk capacity media copy l m) where
-  desk-even : (logUnevenOf l || marksUnevenOf m) ≡ false
-  desk-even = rw (
-    z .kinds-long,
-    z .offsets-long,
-    z .lens-long,
-    z .digests-long,
-    z .changed-long,
-    z .answered-long,
-    z .codes-long,
-    z .ids-long,
-    z .places-long,
-  )
-
-  desk-long : (logShort (length (l .kinds)) || marksShort (length (m .codes))) ≡ false
-  desk-long = rw (z .kinds-long, z .codes-long)
-
-  module _ (e : Entered) (w : Book e) where
-    all-even : (logUnevenOf l || marksUnevenOf m || entriesUneven (length (e .ids)) (length (e .states)) (length (e .torn))) ≡ false
-    all-even = rw (desk-even, w .ids-long, w .states-long, w .torn-long)
-
-    all-long : (logShort (length (l .kinds)) || marksShort (length (m .codes)) || marksShort (length (e .ids))) ≡ false
-    all-long = rw (desk-long, w .ids-long)
 
 -- ---- the two outputs
 
@@ -128,11 +101,11 @@ module _ (text : List ℕ) (h : Head) (xs : List Call) (e : scriptOf text ≡ sc
       never-short text h xs (k .kinds) (k .firsts) (k .seconds) (k .thirds) (k .starts) (k .pool) e (z .kinds-long) (z .firsts-long) (z .seconds-long) (z .thirds-long)
       (z .starts-long) (z .pool-long)
 
-  opens : Opens h (length xs) sheet (left h xs passes)
-  opens media copy l m d =
-      open-is h xs passes (length xs) sheet holds media copy l m d
-      (rows-pass text h xs e k z (length media) (length copy) (d .media-long) (d .copy-long) (logUnevenOf l || marksUnevenOf m)
-      (logShort (length (l .kinds)) || marksShort (length (m .codes))) (desk-even (h .geometry .capacity) media copy l m d) (desk-long (h .geometry .capacity) media copy l m d))
+  unrefused : runNumber h (length xs) sheet (length (cells h)) (length (cells h)) ≡ 0
+  unrefused = rows-pass text h xs e k z (length (cells h)) (length (cells h)) (cells-long h small) (cells-long h small)
+
+  opens : openOn h (length xs) sheet ≡ left h xs passes
+  opens = open-is h xs passes (length xs) sheet holds small unrefused
 
   abbrev faultFree : Session
   faultFree = runBy h xs Nothing .session
@@ -142,25 +115,18 @@ module _ (text : List ℕ) (h : Head) (xs : List Call) (e : scriptOf text ≡ sc
 
   -- ---- the run at a place
 
-  module _ (place : ℕ) (a : Armed) (media copy : List ℕ) (l : Log) (m : Marks) (b : Entered) (d : Desk (h .geometry .capacity) media copy l m) (w : Book b) where
-    unrefused : runAtNumber h (length xs) sheet (length media) (length copy) l m b ≡ 0
-    unrefused =
-        rows-pass text h xs e k z (length media) (length copy) (d .media-long) (d .copy-long)
-        (logUnevenOf l || marksUnevenOf m || entriesUneven (length (b .ids)) (length (b .states)) (length (b .torn)))
-        (logShort (length (l .kinds)) || marksShort (length (m .codes)) || marksShort (length (b .ids))) (all-even (h .geometry .capacity) media copy l m d b w)
-        (all-long (h .geometry .capacity) media copy l m d b w)
-
+  module _ (place : ℕ) (a : Armed) where
     abbrev shown : Shown
     shown = runShown h xs a
 
-    abbrev ran : RanAt
-    ran = runAtCall h a (length xs) sheet media copy l m b
+    abbrev ran : RunLeft
+    ran = ranOn h a (length xs) sheet
 
     abbrev first : Entered
     first = rowsTo (length (shown .ledger)) (ran .entries)
 
     reads-ledger : (ledgerIn first ≡ shown .ledger) × (refusedIn first ≡ 0)
-    reads-ledger = run-reads h a (length xs) sheet xs holds media copy l m b d w unrefused
+    reads-ledger = run-reads h a (length xs) sheet xs holds small unrefused
 
     room : (column : List ℕ) → length column ≡ 512 → length (suggested (shown .ledger)) ≤ length column
     room column c = rw c (le-trans (suggested-few (shown .ledger)) (few-entries h xs a))
@@ -171,7 +137,8 @@ module _ (text : List ℕ) (h : Head) (xs : List Call) (e : scriptOf text ≡ sc
       operations = shown .operations;
       count = length (shown .ledger);
       rows = first;
-      ended = ap (λ (x : RanAt). x .reply) (run-ended h a (length xs) sheet xs holds media copy l m b d w unrefused);
+      failed = runBy h xs a .failed;
+      ended = ap (λ (x : RunLeft). x .reply) (run-ended h a (length xs) sheet xs holds small unrefused);
       few-entries = few-entries h xs a;
       rows-are = refl;
       swept = sweep-written place shown (first .ids) (first .states) (first .torn) (reads-ledger .0) (reads-ledger .1);
@@ -189,13 +156,13 @@ module _ (text : List ℕ) (h : Head) (xs : List Call) (e : scriptOf text ≡ sc
   lineBy f place = f place (runShown h xs (armedAt h xs passes place))
 
   place-printed : (place : ℕ) → place ≤ points
-      → PlacePrinted h (length xs) sheet (faultFree .log) (faultFree .counters .operations) place (lineBy sweepLine place) (lineBy judgeLine place)
+      → PlacePrinted h (length xs) sheet (left h xs passes) (faultFree .counters .operations) place (lineBy sweepLine place) (lineBy judgeLine place)
   place-printed place b = record {
     armed = armedAt h xs passes place;
     sweep-short = sweep-short place (runShown h xs (armedAt h xs passes place)) (few-entries h xs (armedAt h xs passes place));
     judge-short = judge-short place (runShown h xs (armedAt h xs passes place)) (few-entries h xs (armedAt h xs passes place));
     placed = placed-is h xs passes place b;
-    prints = λ media copy l m c d w. run-printed place (armedAt h xs passes place) media copy l m c d w;
+    prints = run-printed place (armedAt h xs passes place);
   }
 
   -- ---- the text

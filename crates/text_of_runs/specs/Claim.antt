@@ -2,6 +2,7 @@
 -- script, opens the sweep, and at each place asks what is armed, runs the script with it and writes the run's line. What each function
 -- answers is the definition that its contract cites; the text is that of document 01. Definitions only; assumes nothing.
 use mathlib.Core.Path.{_≡_}
+use mathlib.Core.Bool.{Bool}
 use mathlib.Core.List.{List, [], _∷_, flatten}
 use Prim.Native.Nat.{ℕ, zero, suc, _≤_}
 use lib.ListN.{length, take}
@@ -10,7 +11,6 @@ use Rattle.model.specs.declared.ListAnswer.the-variants.{ListIs}
 use Rattle.oracle.specs.declared.Banks.the-variants.{Absent}
 use Rattle.oracle.specs.Verdict.{numberOf, verified}
 use Rattle.session.specs.declared.Armed.{Armed}
-use Rattle.session.specs.Log.{Log, Marks}
 use Rattle.ledger.specs.Ledger.{Entered, enteredOf}
 use Rattle.script.specs.declared.Head.{Head}
 use Rattle.script.specs.declared.ReadScript.the-variants.{Read, Refused}
@@ -22,11 +22,11 @@ use Rattle.sweep_lines.specs.Answers.{sweepPut}
 use Rattle.sweeps.specs.Sweep.{sweepOutput, judgeOutput}
 use Rattle.harness.specs.declared.Opened.the-variants.{Runs, NotSwept}
 use Rattle.armed_runs.specs.declared.Placed.the-variants.{Run}
-use Rattle.harness.specs.Opening.{OpenLeft, openCall}
+use Rattle.harness.specs.Opening.{OpenLeft, openOn}
 use Rattle.armed_runs.specs.Places.{placedAt}
-use Rattle.harness_runs.specs.declared.RunAt.the-variants.{Ended}
-use Rattle.harness_runs.specs.Running.{RanAt, runAtCall}
-use Rattle.text_of_runs.specs.Lent.{Sheet, Desk, Book}
+use Rattle.harness_runs.specs.declared.Ran.the-variants.{Ended}
+use Rattle.harness_runs.specs.Running.{RunLeft, ranOn}
+use Rattle.text_of_runs.specs.Lent.{Sheet}
 use Rattle.text_of_runs.specs.Printout.{sweepLines, judgeLines}
 
 -- ---- one run
@@ -35,14 +35,15 @@ use Rattle.text_of_runs.specs.Printout.{sweepLines, judgeLines}
 abbrev pub rowsTo : (n : ℕ) → Entered → Entered
 rowsTo n e = enteredOf (take n (e .ids)) (take n (e .states)) (take n (e .torn))
 
--- what `run_at` left of a run, and what the line functions make of it
-pub record RunPrinted (place : ℕ) (armed : Armed) (ran : RanAt) (sweep judge : List ℕ) : Type 0 where
+-- what `run_one` left of a run, and what the line functions make of it
+pub record RunPrinted (place : ℕ) (armed : Armed) (ran : RunLeft) (sweep judge : List ℕ) : Type 0 where
   pub stop : Stop
   pub operations : ℕ
   pub count : ℕ
+  pub failed : Bool
   pub rows : Entered
   -- the run ended: it is never refused; its ledger is the first `count` rows of the columns
-  pub ended : ran .reply ≡ Ended stop operations count
+  pub ended : ran .reply ≡ Ended stop operations count failed
   pub few-entries : count ≤ 512
   pub rows-are : rows ≡ rowsTo count (ran .entries)
   -- `sweep_line` on those rows writes the run's line of `sweep`, unless it does not fit
@@ -56,22 +57,16 @@ pub record RunPrinted (place : ℕ) (armed : Armed) (ran : RanAt) (sweep judge :
   -- `verify_oracle` on those rows and that history, with nothing dispatched and no bank count, gives the run's line of `judge`
   pub judged : judgedLine place (numberOf (verified (rows .ids) (rows .states) (rows .torn) history [] Absent)) history ≡ judge
 
--- the run at a place: `point_at` on the fault-free run's operations says what is armed, and whatever the columns hold that are lent to
--- `run_at` the run is printed so
-pub record PlacePrinted (h : Head) (rows : ℕ) (k : Columns) (log : Log) (operations place : ℕ) (sweep judge : List ℕ) : Type 0 where
+-- the run at a place: `point_at` on the fault-free run's operations says what is armed, and the run with it is printed so
+pub record PlacePrinted (h : Head) (rows : ℕ) (k : Columns) (o : OpenLeft) (operations place : ℕ) (sweep judge : List ℕ) : Type 0 where
   pub armed : Armed
   -- no line is longer than 11,915 bytes, so that a buffer with as much room refuses none
   pub sweep-short : length sweep ≤ 11915
   pub judge-short : length judge ≤ 11915
-  pub placed : placedAt place (h .geometry) (take operations (log .kinds)) (take operations (log .offsets)) (take operations (log .lens)) ≡ Run armed
-  pub prints : (media copy : List ℕ) (l : Log) (m : Marks) (e : Entered) → Desk (h .geometry .capacity) media copy l m → Book e
-      → RunPrinted place armed (runAtCall h armed rows k media copy l m e) sweep judge
+  pub placed : placedAt place (h .geometry) (take operations (o .kinds)) (take operations (o .offsets)) (take operations (o .lens)) ≡ Run armed
+  pub prints : RunPrinted place armed (ranOn h armed rows k) sweep judge
 
 -- ---- the whole text
-
--- whatever the columns hold that are lent to `open_sweep`, it leaves this
-abbrev pub Opens : Head → (rows : ℕ) → Columns → OpenLeft → Type 0
-Opens h rows k o = (media copy : List ℕ) (l : Log) (m : Marks) → Desk (h .geometry .capacity) media copy l m → openCall h rows k media copy l m ≡ o
 
 -- the lines of so many runs, from a place on
 unfoldable pub runLines : (line : (place : ℕ) → List ℕ) → (runs place : ℕ) → List (List ℕ)
@@ -83,7 +78,7 @@ pub record SweepPrinted (h : Head) (rows : ℕ) (k : Columns) (o : OpenLeft) (op
   pub opened : o .reply ≡ Runs operations points
   pub few-operations : operations ≤ 1024
   pub few-points : points ≤ 50337794
-  pub at-places : (place : ℕ) → place ≤ points → PlacePrinted h rows k (o .log) operations place (sweep place) (judge place)
+  pub at-places : (place : ℕ) → place ≤ points → PlacePrinted h rows k o operations place (sweep place) (judge place)
 
 -- what the two programs print: these lines, one after the other
 pub record Outputs (text : List ℕ) (sweep judge : List (List ℕ)) : Type 0 where
@@ -98,10 +93,10 @@ pub data Printed (text : List ℕ) (k : Columns) : Type 0 where
   unread : (number line : ℕ) → readInto text k ≡ after (Refused number line) k → Outputs text (refusedText number line ∷ []) (refusedText number line ∷ []) → Printed text k
   -- `open_sweep` refuses: its number and 0
   unswept : (h : Head) (rows bytes : ℕ) (sheet : Columns) (o : OpenLeft) (number : ℕ) → readInto text k ≡ after (Read h rows bytes) sheet
-      → h .geometry .capacity ≤ 16384 → Opens h rows sheet o → o .reply ≡ NotSwept number → Outputs text (refusedText number 0 ∷ []) (refusedText number 0 ∷ []) → Printed text k
+      → h .geometry .capacity ≤ 16384 → openOn h rows sheet ≡ o → o .reply ≡ NotSwept number → Outputs text (refusedText number 0 ∷ []) (refusedText number 0 ∷ []) → Printed text k
   -- the count of runs, and a line for each place
   swept : (h : Head) (rows bytes : ℕ) (sheet : Columns) (o : OpenLeft) (operations points : ℕ) (sweep judge : ℕ → List ℕ)
-      → readInto text k ≡ after (Read h rows bytes) sheet → h .geometry .capacity ≤ 16384 → Opens h rows sheet o → SweepPrinted h rows sheet o operations points sweep judge
+      → readInto text k ≡ after (Read h rows bytes) sheet → h .geometry .capacity ≤ 16384 → openOn h rows sheet ≡ o → SweepPrinted h rows sheet o operations points sweep judge
       → Outputs text (runsLine (suc points) ∷ runLines sweep (suc points) 0) (runsLine (suc points) ∷ runLines judge (suc points) 0) → Printed text k
 
 -- The claim: whatever the text, and whatever the columns of 32,768 rows hold that it is read into.

@@ -3,7 +3,8 @@
 --     past-all, from-first, from-run          the part of a sweep, past its end, from the count or from a run on
 --     refused-past, refused-none, refused-some  the part of a refused script
 --     open-part, open-zeros                   the fault-free run, on a part of the media and on columns of zeros
---     swept-refused, swept-runs               a sweep that is refused, or its runs
+--     recorded-is                             the runs, by the operations recorded
+--     opened-refused, opened-runs, swept-is   a sweep that is refused, or its runs
 --     read-refused, read-swept                a script that is refused, or its sweep
 -- Assumes nothing.
 use mathlib.Core.Path.{_≡_, refl, sym, ap, ap₂, _∙_}
@@ -16,7 +17,6 @@ use lib.ListN.{length, take, drop, replicate}
 use lib.Dec.{leb}
 use borrow.Author.Tests.{lt-ltb, le-ltb, eq-eqb, ne-eqb, leb-true, leb-false}
 use Rattle.basics.proofs.Lists.{take-few}
-use Rattle.session.specs.Log.{Log, logOf, Marks, marksOf}
 use Rattle.script.specs.declared.Head.{Head}
 use Rattle.script.specs.declared.ReadScript.{ReadScript}
 use Rattle.script.specs.declared.ReadScript.the-variants.{Read, Refused}
@@ -27,15 +27,16 @@ use Rattle.lines.specs.Lines.{runsLine, refusedText}
 use Rattle.lines.specs.Answers.{Put, put}
 use Rattle.harness.specs.declared.Opened.{Opened}
 use Rattle.harness.specs.declared.Opened.the-variants.{Runs, NotSwept}
-use Rattle.harness.specs.Opening.{OpenLeft, openLeft, openCall}
-use Rattle.run_lines.specs.RunLine.{RunPut, zeros, freshMarks, runLineCall}
+use Rattle.harness_runs.specs.Running.{zeros, cells}
+use Rattle.harness.specs.Opening.{openLeft, openCall, openOn}
+use Rattle.run_lines.specs.RunLine.{RunPut, runLineCall}
 use Rattle.run_lines.proofs.Parts.{lined}
 use Rattle.text_of_runs.proofs.Short.{put-past}
 use Rattle.text_parts.specs.declared.Part.{Part}
 use Rattle.text_parts.specs.declared.Part.the-variants.{Lines, NoRoom}
 use Rattle.text_parts.specs.declared.Filled.{Filled}
 use Rattle.text_parts.specs.Parts.{PartLeft, partLeft, fitting, partOf}
-use Rattle.text_parts.specs.Inner.{FillLeft, fillLeft, fillRuns, partReply, partAfter, partFirst, firstPart, runsPart, runsOf, refusedPart, OpenEnd, openEnd, endOfOpen, openOn, openedPart, sweptPart, freshColumns, readPart, partCall}
+use Rattle.text_parts.specs.Inner.{FillLeft, fillLeft, fillRuns, partReply, partAfter, partFirst, firstPart, runsPart, runsOf, refusedPart, OpenEnd, openEnd, endOfOpen, recordedPart, openedPart, sweptPart, freshColumns, readPart, partCall}
 use Rattle.text_parts.proofs.Fitted.{none-fits, put-none, over-front, fit-first}
 
 -- ---- the count of runs, and the runs after it
@@ -126,53 +127,49 @@ module _ (number line from : ℕ) (out : List ℕ) where
 
 -- ---- the fault-free run
 
-pub open-part : (h : Head) (rows : ℕ) (k : Columns) (media copy : List ℕ) (l : Log) (m : Marks) → length media ≡ 16384 → length copy ≡ 16384
-    → (n : ℕ) → n ≡ min (h .geometry .capacity) 16384 → (r : Opened) (media₁ copy₁ : List ℕ) (l₁ : Log) (m₁ : Marks)
-    → openLeft r media₁ copy₁ l₁ m₁ ≡ openCall h rows k (take n media) (take n copy) l m
-    → openEnd r (l₁ .kinds) (l₁ .offsets) (l₁ .lens) ≡ endOfOpen (openCall h rows k (take (h .geometry .capacity) media) (take (h .geometry .capacity) copy) l m)
-open-part h rows k media copy l m lm lc n q r media₁ copy₁ l₁ m₁ p =
+pub open-part : (h : Head) (rows : ℕ) (k : Columns) (media copy ks os ls : List ℕ) → length media ≡ 16384 → length copy ≡ 16384
+    → (n : ℕ) → n ≡ min (h .geometry .capacity) 16384 → (r : Opened) (media₁ copy₁ ks₁ os₁ ls₁ : List ℕ)
+    → openLeft r media₁ copy₁ ks₁ os₁ ls₁ ≡ openCall h rows k (take n media) (take n copy) ks os ls
+    → openEnd r ks₁ os₁ ls₁ ≡ endOfOpen (openCall h rows k (take (h .geometry .capacity) media) (take (h .geometry .capacity) copy) ks os ls)
+open-part h rows k media copy ks os ls lm lc n q r media₁ copy₁ ks₁ os₁ ls₁ p =
     ap endOfOpen p
-    ∙ ap₂ (λ (x y : List ℕ). endOfOpen (openCall h rows k x y l m)) (take-few media 16384 (h .geometry .capacity) n lm q)
+    ∙ ap₂ (λ (x y : List ℕ). endOfOpen (openCall h rows k x y ks os ls)) (take-few media 16384 (h .geometry .capacity) n lm q)
     (take-few copy 16384 (h .geometry .capacity) n lc q)
 
-pub open-zeros : (h : Head) (rows : ℕ) (k : Columns) (ops spans sizes : List ℕ) (e : OpenEnd)
-    → let column : List ℕ = replicate 1024 0 in
-    let short : List ℕ = replicate 512 0 in
-    let cells : List ℕ = take (h .geometry .capacity) (replicate 16384 0) in
-    e ≡ endOfOpen (openCall h rows k cells cells (logOf ops spans sizes column column column) (marksOf short short short))
-    → e ≡ endOfOpen (openCall h rows k (take (h .geometry .capacity) (zeros 16384)) (take (h .geometry .capacity) (zeros 16384)) (logOf ops spans sizes (zeros 1024) (zeros 1024) (zeros 1024)) freshMarks)
+pub open-zeros : (h : Head) (rows : ℕ) (k : Columns) (ks os ls : List ℕ) (e : OpenEnd)
+    → (let media : List ℕ = take (h .geometry .capacity) (replicate 16384 0) in e ≡ endOfOpen (openCall h rows k media media ks os ls))
+    → e ≡ endOfOpen (openCall h rows k (cells h) (cells h) ks os ls)
 unfolding zeros
-open-zeros h rows k ops spans sizes e p = p
+open-zeros h rows k ks os ls e p = p
 
 -- ---- a read script
 
-module _ (judged : Bool) (from : ℕ) (h : Head) (rows : ℕ) (k : Columns) (out : List ℕ) (r : Opened) (ks os ls : List ℕ)
-    (e : let column : List ℕ = replicate 1024 0 in
-    openEnd r ks os ls
-    ≡ endOfOpen (openCall h rows k (take (h .geometry .capacity) (zeros 16384)) (take (h .geometry .capacity) (zeros 16384)) (logOf column column column (zeros 1024) (zeros 1024) (zeros 1024)) freshMarks)) where
-  opened-is : openedPart judged from h rows k r ks os ls out ≡ sweptPart judged from h rows k out
-  unfolding sweptPart openOn zeros
-  opened-is = ap (λ (x : OpenEnd). openedPart judged from h rows k (x .reply) (x .kinds) (x .offsets) (x .lens) out) e
-
-  pub swept-refused : (number : ℕ) → r ≡ NotSwept number → (reply : Part) (new : List ℕ) → partLeft reply new ≡ refusedPart number 0 from out
-      → partLeft reply new ≡ sweptPart judged from h rows k out
-  swept-refused number q reply new p = p ∙ ap (λ (x : Opened). openedPart judged from h rows k x ks os ls out) (sym q) ∙ opened-is
-
+module _ (judged : Bool) (from : ℕ) (h : Head) (rows : ℕ) (k : Columns) (out : List ℕ) where
   -- the lines of the runs, by the first rows of the log
-  abbrev writes : (kinds offsets lens : List ℕ) → (place at : ℕ) → List ℕ → RunPut
-  writes kinds offsets lens place at new = runLineCall judged place h rows k kinds offsets lens at new
-
-  pub swept-runs : (n points : ℕ) → r ≡ Runs n points → length ks ≡ 1024 → length os ≡ 1024 → length ls ≡ 1024 → (m : ℕ) → m ≡ min n 1024 → (count : ℕ) → count ≡ runsOf points
-      → (reply : Part) (new : List ℕ) → partLeft reply new ≡ runsPart (writes (take m ks) (take m os) (take m ls)) count from out
-      → partLeft reply new ≡ sweptPart judged from h rows k out
-  swept-runs n points q lk lo ll m z count c reply new p =
+  pub recorded-is : (n points : ℕ) (ks os ls : List ℕ) → length ks ≡ 1024 → length os ≡ 1024 → length ls ≡ 1024 → (m : ℕ) → m ≡ min n 1024 → (count : ℕ) → count ≡ runsOf points
+      → (reply : Part) (new : List ℕ)
+      → partLeft reply new ≡ runsPart (λ (place at : ℕ) (o : List ℕ). runLineCall judged place h rows k (take m ks) (take m os) (take m ls) at o) count from out
+      → partLeft reply new ≡ recordedPart judged from h rows k n points ks os ls out
+  unfolding recordedPart
+  recorded-is n points ks os ls lk lo ll m z count c reply new p =
       let ek : take m ks ≡ take n ks = take-few ks 1024 n m lk z in
       let eo : take m os ≡ take n os = take-few os 1024 n m lo z in
       let el : take m ls ≡ take n ls = take-few ls 1024 n m ll z in
-      p
-      ∙ (λ i. runsPart (writes (ek i) (eo i) (el i)) (c i) from out)
-      ∙ ap (λ (x : Opened). openedPart judged from h rows k x ks os ls out) (sym q)
-      ∙ opened-is
+      p ∙ λ i. runsPart (λ (place at : ℕ) (o : List ℕ). runLineCall judged place h rows k (ek i) (eo i) (el i) at o) (c i) from out
+
+  module _ (r : Opened) (ks os ls : List ℕ) where
+    pub opened-refused : (number : ℕ) → r ≡ NotSwept number → (reply : Part) (new : List ℕ) → partLeft reply new ≡ refusedPart number 0 from out
+        → partLeft reply new ≡ openedPart judged from h rows k r ks os ls out
+    opened-refused number q reply new p = p ∙ ap (λ (x : Opened). openedPart judged from h rows k x ks os ls out) (sym q)
+
+    pub opened-runs : (n points : ℕ) → r ≡ Runs n points → (reply : Part) (new : List ℕ) → partLeft reply new ≡ recordedPart judged from h rows k n points ks os ls out
+        → partLeft reply new ≡ openedPart judged from h rows k r ks os ls out
+    opened-runs n points q reply new p = p ∙ ap (λ (x : Opened). openedPart judged from h rows k x ks os ls out) (sym q)
+
+    pub swept-is : (let column : List ℕ = replicate 1024 0 in openEnd r ks os ls ≡ endOfOpen (openCall h rows k (cells h) (cells h) column column column))
+        → (reply : Part) (new : List ℕ) → partLeft reply new ≡ openedPart judged from h rows k r ks os ls out → partLeft reply new ≡ sweptPart judged from h rows k out
+    unfolding sweptPart openOn zeros
+    swept-is e reply new p = p ∙ ap (λ (x : OpenEnd). openedPart judged from h rows k (x .reply) (x .kinds) (x .offsets) (x .lens) out) e
 
 -- ---- a text
 

@@ -27,18 +27,18 @@ use Rattle.pieces.proofs.Lists.{flatten-append}
 use Rattle.sweeps.specs.Sweep.{sweepOutput, judgeOutput}
 use Rattle.harness.specs.declared.Opened.{Opened}
 use Rattle.harness.specs.declared.Opened.the-variants.{Runs}
-use Rattle.harness.specs.Opening.{OpenLeft}
+use Rattle.harness.specs.Opening.{OpenLeft, openOn}
 use Rattle.text_of_runs.specs.Lent.{Sheet}
 use Rattle.text_of_runs.specs.Printout.{sweepLines, judgeLines}
 use Rattle.text_of_runs.specs.Claim.{runLines, SweepPrinted, Outputs, Printed, unread, unswept, swept}
 use Rattle.text_of_runs.proofs.Short.{put-past, runs-short, refused-short}
 use Rattle.text_of_runs.proofs.Whole.{printed}
-use Rattle.run_lines.specs.RunLine.{RunPut, lineAs, zeros, freshLog, freshMarks, runLineCall}
-use Rattle.run_lines.proofs.Whole.{zeros-long, desk, line-at}
+use Rattle.run_lines.specs.RunLine.{RunPut, lineAs, runLineCall}
+use Rattle.run_lines.proofs.Whole.{zeros-long, line-at}
 use Rattle.text_parts.specs.declared.Part.{Part}
 use Rattle.text_parts.specs.declared.Part.the-variants.{Lines, NoRoom}
 use Rattle.text_parts.specs.Parts.{fitting, noneFits, PartLeft, partLeft, partWith, partOf, inTurn, Parts, AllParts}
-use Rattle.text_parts.specs.Inner.{FillLeft, filledAt, fillRuns, partReply, partAfter, partFirst, firstPart, runsPart, runsOf, openOn, openedPart, sweptPart, freshColumns, readPart, partCall}
+use Rattle.text_parts.specs.Inner.{FillLeft, filledAt, fillRuns, partReply, partAfter, partFirst, firstPart, runsPart, runsOf, recordedPart, openedPart, sweptPart, freshColumns, readPart, partCall}
 use Rattle.text_parts.proofs.Fitted.{fit-first, fit-before, none-fits, partBy, reply-is, put-none, over-front, reached, fills}
 
 -- ---- lines by place
@@ -177,36 +177,34 @@ runs-of points h = let s : points + 1 ≡ suc points = omega arith in rw (lt-ltb
 
 module _ (judged : Bool) (text : List ℕ) (from : ℕ) (out : List ℕ) where
   -- a script that was read, by what its fault-free run left
-  opened-is : (h : Head) (rows : ℕ) (k : Columns) (o : OpenLeft) → h .geometry .capacity ≤ 16384 → openOn h rows k ≡ o
-      → sweptPart judged from h rows k out ≡ openedPart judged from h rows k (o .reply) (o .log .kinds) (o .log .offsets) (o .log .lens) out
+  opened-is : (h : Head) (rows : ℕ) (k : Columns) (o : OpenLeft) → openOn h rows k ≡ o
+      → sweptPart judged from h rows k out ≡ openedPart judged from h rows k (o .reply) (o .kinds) (o .offsets) (o .lens) out
   unfolding sweptPart
-  opened-is h rows k o small e =
-      ap (λ (x : OpenLeft). openedPart judged from h rows k (x .reply) (x .log .kinds) (x .log .offsets) (x .log .lens) out) e
+  opened-is h rows k o e =
+      ap (λ (x : OpenLeft). openedPart judged from h rows k (x .reply) (x .kinds) (x .offsets) (x .lens) out) e
 
   abbrev Wanted : Type 0
   Wanted = partCall judged text from out ≡ partOf (drop from (linesFor judged text)) out
 
   by-ways : Printed text freshColumns → Wanted
-  unfolding partCall openOn
+  unfolding partCall recordedPart
   by-ways (unread number line r o) =
       ap (λ (x : After). readPart judged from (x .reply) (x .columns) out) r
       ∙ ap (λ (ls : List (List ℕ)). partOf (drop from ls) out) (sym (one-line judged text (refusedText number line) o))
   by-ways (unswept h rows bytes k o number r small opens e outs) =
-      let cells : List ℕ = take (h .geometry .capacity) (zeros 16384) in
       ap (λ (x : After). readPart judged from (x .reply) (x .columns) out) r
-      ∙ opened-is h rows k o small (opens cells cells freshLog freshMarks (desk (h .geometry .capacity) small))
-      ∙ ap (λ (x : Opened). openedPart judged from h rows k x (o .log .kinds) (o .log .offsets) (o .log .lens) out) e
+      ∙ opened-is h rows k o opens
+      ∙ ap (λ (x : Opened). openedPart judged from h rows k x (o .kinds) (o .offsets) (o .lens) out) e
       ∙ ap (λ (ls : List (List ℕ)). partOf (drop from ls) out) (sym (one-line judged text (refusedText number 0) outs))
   by-ways (swept h rows bytes k o operations points sweep judge r small opens sp outs) =
-      let cells : List ℕ = take (h .geometry .capacity) (zeros 16384) in
       let w : ℕ → ℕ → List ℕ → RunPut =
-      λ place at new. runLineCall judged place h rows k (take operations (o .log .kinds)) (take operations (o .log .offsets)) (take operations (o .log .lens)) at new in
+      λ place at new. runLineCall judged place h rows k (take operations (o .kinds)) (take operations (o .offsets)) (take operations (o .lens)) at new in
       ap (λ (x : After). readPart judged from (x .reply) (x .columns) out) r
-      ∙ opened-is h rows k o small (opens cells cells freshLog freshMarks (desk (h .geometry .capacity) small))
-      ∙ ap (λ (x : Opened). openedPart judged from h rows k x (o .log .kinds) (o .log .offsets) (o .log .lens) out) (sp .opened)
+      ∙ opened-is h rows k o opens
+      ∙ ap (λ (x : Opened). openedPart judged from h rows k x (o .kinds) (o .offsets) (o .lens) out) (sp .opened)
       ∙ ap (λ (n : ℕ). runsPart w n from out) (runs-of points (sp .few-points))
       ∙ runs-is w (lineFor judged sweep judge) (suc points)
-      (λ place at new b. line-at judged place h rows k (o .log) operations (sweep place) (judge place) (sp .at-places place (le-of-suc-le-suc b)) small at new) out from
+      (λ place at new b. line-at judged place h rows k o operations (sweep place) (judge place) (sp .at-places place (le-of-suc-le-suc b)) at new) out from
       ∙ ap (λ (ls : List (List ℕ)). partOf (drop from ls) out) (sym (run-lines judged text (suc points) sweep judge outs))
 
   pub part-is : Wanted

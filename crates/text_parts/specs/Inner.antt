@@ -4,7 +4,6 @@ use mathlib.Core.List.{List, [], _∷_}
 use Prim.Native.Nat.{ℕ, zero, suc, _+_, _-_}
 use lib.ListN.{take, drop}
 use lib.Dec.{eqb, ltb}
-use Rattle.session.specs.Log.{logOf}
 use Rattle.script.specs.declared.Head.{Head}
 use Rattle.script.specs.declared.ReadScript.{ReadScript}
 use Rattle.script.specs.declared.ReadScript.the-variants.{Read, Refused}
@@ -15,10 +14,11 @@ use Rattle.lines.specs.Lines.{runsLine, refusedText}
 use Rattle.lines.specs.Answers.{Put, put}
 use Rattle.harness.specs.declared.Opened.{Opened}
 use Rattle.harness.specs.declared.Opened.the-variants.{Runs, NotSwept}
-use Rattle.harness.specs.Opening.{OpenLeft, openCall}
+use Rattle.harness.specs.Opening.{OpenLeft, openOn}
 use Rattle.run_lines.specs.declared.RunLine.{RunLine}
 use Rattle.run_lines.specs.declared.RunLine.the-variants.{UpTo, NoLine}
-use Rattle.run_lines.specs.RunLine.{RunPut, zeros, freshLog, freshMarks, runLineCall}
+use Rattle.harness_runs.specs.Running.{zeros}
+use Rattle.run_lines.specs.RunLine.{RunPut, runLineCall}
 use Rattle.text_parts.specs.declared.Part.{Part}
 use Rattle.text_parts.specs.declared.Part.the-variants.{Lines, NoRoom}
 use Rattle.text_parts.specs.declared.Filled.{Filled}
@@ -94,22 +94,22 @@ abbrev pub openEnd : Opened → (kinds offsets lens : List ℕ) → OpenEnd
 openEnd r k o l = record { reply = r; kinds = k; offsets = o; lens = l }
 
 abbrev pub endOfOpen : OpenLeft → OpenEnd
-endOfOpen o = openEnd (o .reply) (o .log .kinds) (o .log .offsets) (o .log .lens)
-
--- on media of capacity length, at most 16,384, and columns of zeros
-unfoldable pub openOn : Head → (rows : ℕ) → Columns → OpenLeft
-openOn h rows k = openCall h rows k (take (h .geometry .capacity) (zeros 16384)) (take (h .geometry .capacity) (zeros 16384)) freshLog freshMarks
+endOfOpen o = openEnd (o .reply) (o .kinds) (o .offsets) (o .lens)
 
 -- ---- a script's text
 
+-- the runs, by the operations that the fault-free run recorded
+unfoldable pub recordedPart : (judged : Bool) → (from : ℕ) → Head → (rows : ℕ) → Columns → (operations points : ℕ) → (kinds offsets lens : List ℕ) → (out : List ℕ) → PartLeft
+recordedPart judged from h rows k n points ks os ls out =
+    runsPart (λ (place at : ℕ) (new : List ℕ). runLineCall judged place h rows k (take n ks) (take n os) (take n ls) at new) (runsOf points) from out
+
 abbrev pub openedPart : (judged : Bool) → (from : ℕ) → Head → (rows : ℕ) → Columns → Opened → (kinds offsets lens : List ℕ) → (out : List ℕ) → PartLeft
 openedPart judged from h rows k (NotSwept number) ks os ls out = refusedPart number 0 from out
-openedPart judged from h rows k (Runs n points) ks os ls out =
-    runsPart (λ (place at : ℕ) (new : List ℕ). runLineCall judged place h rows k (take n ks) (take n os) (take n ls) at new) (runsOf points) from out
+openedPart judged from h rows k (Runs n points) ks os ls out = recordedPart judged from h rows k n points ks os ls out
 
 unfoldable pub sweptPart : (judged : Bool) → (from : ℕ) → Head → (rows : ℕ) → Columns → (out : List ℕ) → PartLeft
 sweptPart judged from h rows k out =
-    openedPart judged from h rows k (openOn h rows k .reply) (openOn h rows k .log .kinds) (openOn h rows k .log .offsets) (openOn h rows k .log .lens) out
+    openedPart judged from h rows k (openOn h rows k .reply) (openOn h rows k .kinds) (openOn h rows k .offsets) (openOn h rows k .lens) out
 
 -- the columns and the pool that a script is read into
 abbrev pub freshColumns : Columns

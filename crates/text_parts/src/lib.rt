@@ -10,13 +10,13 @@ ghost use mathlib.Core.Path.{_≡_};
 ghost use mathlib.Core.List.{List};
 ghost use Prim.Native.Nat.{ℕ, _-_, _≤_, min};
 ghost use lib.ListN.{length, take, drop};
-ghost use Rattle.session.specs.Log.{logOf, marksOf};
 ghost use Rattle.script.specs.Columns.{columns};
 ghost use Rattle.harness.specs.Opening.{openCall};
-ghost use Rattle.run_lines.specs.RunLine.{freshMarks, zeros, runLineCall};
+ghost use Rattle.harness_runs.specs.Running.{cells};
+ghost use Rattle.run_lines.specs.RunLine.{runLineCall};
 ghost use Rattle.text_of_runs.specs.Printout.{sweepLines, judgeLines};
 ghost use Rattle.text_parts.specs.Parts.{partLeft, partOf};
-ghost use Rattle.text_parts.specs.Inner.{fillLeft, fillRuns, partReply, firstPart, runsPart, runsOf, refusedPart, openEnd, endOfOpen, sweptPart, partCall};
+ghost use Rattle.text_parts.specs.Inner.{fillLeft, fillRuns, partReply, firstPart, runsPart, runsOf, refusedPart, openEnd, endOfOpen, recordedPart, openedPart, sweptPart, partCall};
 
 // What a part holds: how many lines, how many bytes they are, and how many lines come after them; or the number that refuses a
 // buffer without room for the next line, and then nothing is written.
@@ -218,18 +218,12 @@ fn open_on(
     pool: &[u8],
     media: &mut [u8],
     copy: &mut [u8],
-    ops: &mut [u8],
-    spans: &mut [u32],
-    sizes: &mut [u32],
-    digests: &mut [u64],
-    changed: &mut [u8],
-    answered: &mut [u8],
-    marks: &mut [u8],
-    named: &mut [u32],
-    places: &mut [u64],
+    ops: &mut [u8; 1024],
+    spans: &mut [u32; 1024],
+    sizes: &mut [u32; 1024],
 ) -> Opened
     requires { ⌜ (length (now media) ≡ 16384) × (length (now copy) ≡ 16384) ⌝ }
-    ensures { λ r. ⌜ openEnd r (now (ops .exit)) (now (spans .exit)) (now (sizes .exit)) ≡ endOfOpen (openCall head rows (columns (now (kinds .entry)) (now (firsts .entry)) (now (seconds .entry)) (now (thirds .entry)) (now (starts .entry)) (now (pool .entry))) (take (head .geometry .capacity) (now (media .entry))) (take (head .geometry .capacity) (now (copy .entry))) (logOf (now (ops .entry)) (now (spans .entry)) (now (sizes .entry)) (now (digests .entry)) (now (changed .entry)) (now (answered .entry))) (marksOf (now (marks .entry)) (now (named .entry)) (now (places .entry)))) ⌝ }
+    ensures { λ r. ⌜ openEnd r (now (ops .exit)) (now (spans .exit)) (now (sizes .exit)) ≡ endOfOpen (openCall head rows (columns (now (kinds .entry)) (now (firsts .entry)) (now (seconds .entry)) (now (thirds .entry)) (now (starts .entry)) (now (pool .entry))) (take (head .geometry .capacity) (now (media .entry))) (take (head .geometry .capacity) (now (copy .entry))) (now (ops .entry)) (now (spans .entry)) (now (sizes .entry))) ⌝ }
 {
     let geometry = head.geometry;
     let capacity = basics::lower(geometry.capacity as usize, 16384);
@@ -247,12 +241,6 @@ fn open_on(
         ops,
         spans,
         sizes,
-        digests,
-        changed,
-        answered,
-        marks,
-        named,
-        places,
     )
 }
 
@@ -266,20 +254,14 @@ fn open_rows(
     thirds: &[u32],
     starts: &[u32],
     pool: &[u8],
-    ops: &mut [u8],
-    spans: &mut [u32],
-    sizes: &mut [u32],
+    ops: &mut [u8; 1024],
+    spans: &mut [u32; 1024],
+    sizes: &mut [u32; 1024],
 ) -> Opened
-    ensures { λ r. ⌜ openEnd r (now (ops .exit)) (now (spans .exit)) (now (sizes .exit)) ≡ endOfOpen (openCall head rows (columns (now (kinds .entry)) (now (firsts .entry)) (now (seconds .entry)) (now (thirds .entry)) (now (starts .entry)) (now (pool .entry))) (take (head .geometry .capacity) (zeros 16384)) (take (head .geometry .capacity) (zeros 16384)) (logOf (now (ops .entry)) (now (spans .entry)) (now (sizes .entry)) (zeros 1024) (zeros 1024) (zeros 1024)) freshMarks) ⌝ }
+    ensures { λ r. ⌜ openEnd r (now (ops .exit)) (now (spans .exit)) (now (sizes .exit)) ≡ endOfOpen (openCall head rows (columns (now (kinds .entry)) (now (firsts .entry)) (now (seconds .entry)) (now (thirds .entry)) (now (starts .entry)) (now (pool .entry))) (cells head) (cells head) (now (ops .entry)) (now (spans .entry)) (now (sizes .entry))) ⌝ }
 {
     let mut media = [0u8; 16384];
     let mut copy = [0u8; 16384];
-    let mut digests = [0u64; 1024];
-    let mut changed = [0u8; 1024];
-    let mut answered = [0u8; 1024];
-    let mut marks = [0u8; 512];
-    let mut named = [0u32; 512];
-    let mut places = [0u64; 512];
     open_on(
         head,
         rows,
@@ -294,12 +276,6 @@ fn open_rows(
         ops,
         spans,
         sizes,
-        &mut digests,
-        &mut changed,
-        &mut answered,
-        &mut marks,
-        &mut named,
-        &mut places,
     )
 }
 
@@ -329,7 +305,93 @@ fn refused_part(number: u32, line: u32, from: u64, out: &mut [u8]) -> Part
     }
 }
 
-// The part of a read script's sweep. A sweep that is refused names line 0.
+// The part of a sweep whose fault-free run recorded so many operations, in columns of 1,024.
+fn recorded_part(
+    judged: bool,
+    from: u64,
+    head: Head,
+    rows: usize,
+    kinds: &[u8],
+    firsts: &[u32],
+    seconds: &[u32],
+    thirds: &[u32],
+    starts: &[u32],
+    pool: &[u8],
+    operations: usize,
+    points: u64,
+    ops: &[u8],
+    spans: &[u32],
+    sizes: &[u32],
+    out: &mut [u8],
+) -> Part
+    requires { ⌜ (length (now ops) ≡ 1024) × (length (now spans) ≡ 1024) × (length (now sizes) ≡ 1024) ⌝ }
+    ensures { λ r. ⌜ partLeft r (now (out .exit)) ≡ recordedPart judged from head rows (columns (now (kinds .entry)) (now (firsts .entry)) (now (seconds .entry)) (now (thirds .entry)) (now (starts .entry)) (now (pool .entry))) operations points (now (ops .entry)) (now (spans .entry)) (now (sizes .entry)) (now (out .entry)) ⌝ }
+{
+    let n = basics::lower(operations, 1024);
+    let runs = runs_of(points);
+    runs_part(
+        judged,
+        runs,
+        head,
+        rows,
+        kinds,
+        firsts,
+        seconds,
+        thirds,
+        starts,
+        pool,
+        &ops[..n],
+        &spans[..n],
+        &sizes[..n],
+        from,
+        out,
+    )
+}
+
+// The part of a sweep that was opened or refused. A sweep that is refused names line 0.
+fn opened_part(
+    judged: bool,
+    from: u64,
+    head: Head,
+    rows: usize,
+    kinds: &[u8],
+    firsts: &[u32],
+    seconds: &[u32],
+    thirds: &[u32],
+    starts: &[u32],
+    pool: &[u8],
+    opened: Opened,
+    ops: &[u8; 1024],
+    spans: &[u32; 1024],
+    sizes: &[u32; 1024],
+    out: &mut [u8],
+) -> Part
+    ensures { λ r. ⌜ partLeft r (now (out .exit)) ≡ openedPart judged from head rows (columns (now (kinds .entry)) (now (firsts .entry)) (now (seconds .entry)) (now (thirds .entry)) (now (starts .entry)) (now (pool .entry))) opened (now (ops .entry)) (now (spans .entry)) (now (sizes .entry)) (now (out .entry)) ⌝ }
+{
+    match opened {
+        Opened::NotSwept(number) => refused_part(number, 0, from, out),
+        Opened::Runs(operations, points) => recorded_part(
+            judged,
+            from,
+            head,
+            rows,
+            kinds,
+            firsts,
+            seconds,
+            thirds,
+            starts,
+            pool,
+            operations,
+            points,
+            ops,
+            spans,
+            sizes,
+            out,
+        ),
+    }
+}
+
+// The part of a read script's sweep.
 fn swept_part(
     judged: bool,
     from: u64,
@@ -361,30 +423,23 @@ fn swept_part(
         &mut spans,
         &mut sizes,
     );
-    match opened {
-        Opened::NotSwept(number) => refused_part(number, 0, from, out),
-        Opened::Runs(operations, points) => {
-            let n = basics::lower(operations, 1024);
-            let runs = runs_of(points);
-            runs_part(
-                judged,
-                runs,
-                head,
-                rows,
-                kinds,
-                firsts,
-                seconds,
-                thirds,
-                starts,
-                pool,
-                &ops[..n],
-                &spans[..n],
-                &sizes[..n],
-                from,
-                out,
-            )
-        }
-    }
+    opened_part(
+        judged,
+        from,
+        head,
+        rows,
+        kinds,
+        firsts,
+        seconds,
+        thirds,
+        starts,
+        pool,
+        opened,
+        &ops,
+        &spans,
+        &sizes,
+        out,
+    )
 }
 
 // The part of a program's text from a line on.

@@ -3,8 +3,9 @@ use mathlib.Core.List.{List}
 use Rattle.session.specs.declared.Told.{Told}
 use Rattle.session.specs.declared.Armed.{Armed}
 use Rattle.session.specs.declared.Armed.the-variants.{Nothing, At}
+use Rattle.session.specs.Armed.{cutBy}
 use Rattle.plain.specs.Plain.{Call}
-use Rattle.plain.specs.Claims.{cutBy, Claims}
+use Rattle.plain.specs.Claims.{Claims}
 use Rattle.plain.proofs.Theorems.{claims}
 use Rattle.threaded.specs.Threaded.{Session, Fresh}
 use Rattle.threaded.specs.Demand3.{Demand3}

@@ -9,9 +9,10 @@ use Rattle.model.specs.Ledger.{Entry}
 use Rattle.id_columns.specs.Ids.{Distinct}
 use Rattle.session.specs.declared.Told.{Told}
 use Rattle.session.specs.declared.Armed.the-variants.{Nothing, At}
+use Rattle.session.specs.Armed.{cutBy}
 use Rattle.plain.specs.Plain.{Call}
 use Rattle.plain.specs.Ledger.{records, begun}
-use Rattle.plain.specs.Claims.{CutOnce, cutBy, OnlyTheLast, AcceptsExactly, AllInOrder, Keeps}
+use Rattle.plain.specs.Claims.{CutOnce, OnlyTheLast, AcceptsExactly, AllInOrder, Keeps}
 use Rattle.threaded.specs.Threaded.{Session, threaded, sessionLedger}
 use Rattle.threaded.specs.Claim.{plainOf, SameAsPlain}
 

@@ -781,7 +781,7 @@ fn bench_full(what: &str, barriers: bool) {
     );
 }
 
-// ---- the sample that crates/ledger_cases replays: the same steps and the same order as in its src/main.rt
+// ---- the sample that crates/session_cases replays from its line 109 on: the same steps and the same order as in its src/main.rt
 
 const SAMPLE_PROGRESSES: [(u32, u32); 6] = [(0, 0), (1, 0), (1, 1), (1, 2), (1, 9), (2, 0)];
 

@@ -1,4 +1,4 @@
-//! The scripts of the samples `sweep` and `judge`, in the order in which crates/sweep_cases and crates/judge_cases replay them. Each
+//! The scripts of the samples `sweep` and `judge`, in the order in which crates/program_cases replays them. Each
 //! group is one byte string, with a semicolon after each script, and stands so in crates/program_cases.
 
 #[rustfmt::skip]

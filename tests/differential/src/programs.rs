@@ -809,7 +809,7 @@ fn bench(_: &mut Random) {
     }
 }
 
-// ---- the samples that crates/sweep_cases and crates/judge_cases replay
+// ---- the samples that crates/program_cases replays
 
 pub fn sample_sweep() -> String {
     sample_of(Program::Sweep)

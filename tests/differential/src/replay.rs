@@ -4,7 +4,8 @@
 //! copy, the number of a refusal, and every cell that is left alone.
 //!
 //! Document 01 does not speak of the calls' columns, the pool and the answers, nor of the codes in log and marks: there this side
-//! follows the contract of `replay`, and shows that the code does, not that the contract is right.
+//! follows the contract of `replay`, and shows that the code does, not that the contract is right. Log and marks are lent as arrays
+//! of a session's limits, so that none of another length can be refused.
 //!
 //! A part of `session`, whose random calls and numbers it makes.
 
@@ -17,50 +18,51 @@ use waymaker_fault::inject::{Injection, Interruption, Progress};
 
 pub const LAYER: Layer = Layer { name: "replay", compare, bench, sample };
 
-// crates/replay_exported/src/lib.rt. Nothing proves that this declaration is that of the file: this is what is trusted here. A
-// slice crosses as a pointer, then a length.
-#[rustfmt::skip]
-unsafe extern "C" {
-    fn replay_of_calls(
-        told: *const u32, told_len: usize, kinds: *const u8, kinds_len: usize, ids: *const u32, ids_len: usize,
-        offsets: *const u32, offsets_len: usize, lens: *const u32, lens_len: usize, starts: *const u32, starts_len: usize,
-        pool: *const u8, pool_len: usize, answers: *mut u32, answers_len: usize, media: *mut u8, media_len: usize,
-        copy: *mut u8, copy_len: usize, ops: *mut u8, ops_len: usize, spans: *mut u32, spans_len: usize,
-        sizes: *mut u32, sizes_len: usize, digests: *mut u64, digests_len: usize, changed: *mut u8, changed_len: usize,
-        answered: *mut u8, answered_len: usize, marks: *mut u8, marks_len: usize, named: *mut u32, named_len: usize,
-        places: *mut u64, places_len: usize, records: *mut u32, records_len: usize, states: *mut u8, states_len: usize,
-        torn: *mut u8, torn_len: usize, entries: *mut u64,
-    ) -> u32;
-}
-
 /// A session takes so many.
 const OPERATIONS: usize = 1024;
 const MARKS: usize = 512;
 
+// crates/replay_exported/src/lib.rt. Nothing proves that this declaration is that of the file: this is what is trusted here. A
+// slice crosses as a pointer, then a length; an array as a pointer to so many.
+#[rustfmt::skip]
+unsafe extern "C" {
+    fn replay_of_calls(
+        told: *const u32, told_len: usize, rows: usize, kinds: *const u8, kinds_len: usize,
+        firsts: *const u32, firsts_len: usize, seconds: *const u32, seconds_len: usize,
+        thirds: *const u32, thirds_len: usize, starts: *const u32, starts_len: usize,
+        pool: *const u8, pool_len: usize, answers: *mut u32, answers_len: usize, media: *mut u8, media_len: usize,
+        copy: *mut u8, copy_len: usize, ops: &mut [u8; OPERATIONS], spans: &mut [u32; OPERATIONS],
+        sizes: &mut [u32; OPERATIONS], digests: &mut [u64; OPERATIONS], changed: &mut [u8; OPERATIONS],
+        answered: &mut [u8; OPERATIONS], marks: &mut [u8; MARKS], named: &mut [u32; MARKS], places: &mut [u64; MARKS],
+        records: *mut u32, records_len: usize, states: *mut u8, states_len: usize, torn: *mut u8, torn_len: usize,
+        entries: *mut u64,
+    ) -> u32;
+}
+
 // ---- inputs
 
-/// One call: 0 a program, 1 an erase, 2 a barrier, 3 begin, 4 end; a program's bytes start there in the pool.
+/// One call: 0 a program, 1 an erase, 2 a barrier, 3 begin, 4 end. First is the id of a begin or the offset of a program or erase,
+/// second the length of a program or erase, third nothing; a program's bytes start there in the pool.
 #[derive(Clone, Copy, Debug)]
 struct Row {
     kind: u8,
-    id: u32,
-    offset: u32,
-    len: u32,
+    first: u32,
+    second: u32,
+    third: u32,
     start: u32,
 }
 
-/// Places of the lengths of what is lent: the calls' five columns, the answers, media, copy, the log's six columns, the marks'
-/// three, the ledger's three.
-const CALLS: usize = 0;
-const ANSWERS: usize = 5;
-const MEDIA: usize = 6;
-const LOG: usize = 8;
-const NOTED: usize = 14;
-const LEDGER: usize = 17;
-const LENGTHS: usize = 20;
+/// Places of how many rows are counted, and of the lengths of what is lent: the table's five columns, the answers, media, copy, the
+/// ledger's three.
+const COUNTED: usize = 0;
+const TABLE: usize = 1;
+const ANSWERS: usize = 6;
+const MEDIA: usize = 7;
+const LEDGER: usize = 9;
+const LENGTHS: usize = 12;
 
-/// Four units, whether the bit rule is Rejected, what is armed, the calls and the pool, and how lengths differ from those that
-/// are fit for the calls: a place and a difference each.
+/// Four units, whether the bit rule is Rejected, what is armed, the rows and the pool, and how the count and the lengths differ from
+/// those that are fit for the rows: a place and a difference each.
 #[derive(Clone, Debug)]
 struct Case {
     units: [u32; 4],
@@ -72,13 +74,11 @@ struct Case {
 }
 
 impl Case {
-    /// Fit for the calls: one answer and one ledger row more than are written.
+    /// Fit for the rows: all are counted, and there is one answer and one ledger row more than are written.
     fn lengths(&self) -> [usize; LENGTHS] {
         let mut found = [self.rows.len(); LENGTHS];
         found[ANSWERS] += 1;
-        found[MEDIA..LOG].fill(self.units[0] as usize);
-        found[LOG..NOTED].fill(OPERATIONS);
-        found[NOTED..LEDGER].fill(MARKS);
+        found[MEDIA..LEDGER].fill(self.units[0] as usize);
         found[LEDGER..].fill(self.rows.iter().filter(|row| row.kind == 3).count() + 1);
         for &(place, by) in &self.changes {
             found[place] = found[place].saturating_add_signed(by);
@@ -86,14 +86,15 @@ impl Case {
         found
     }
 
-    /// A column of the calls, 0 past the last.
+    /// A column of the rows, 0 past the last.
     fn column<T: Copy + Default>(&self, of: impl Fn(&Row) -> T, len: usize) -> Vec<T> {
         (0..len).map(|i| self.rows.get(i).map_or(T::default(), &of)).collect()
     }
 
-    /// The calls that columns of this length hold.
-    fn held(&self, len: usize) -> impl Iterator<Item = Row> + '_ {
-        (0..len).map(|i| self.rows.get(i).copied().unwrap_or(Row { kind: 0, id: 0, offset: 0, len: 0, start: 0 }))
+    /// The rows counted, as far as the columns go: past the last it is a program of nothing.
+    fn held(&self, lengths: &[usize; LENGTHS]) -> impl Iterator<Item = Row> + '_ {
+        let none = Row { kind: PROGRAM, ..BARRIER };
+        (0..lengths[COUNTED].min(lengths[TABLE])).map(move |i| self.rows.get(i).copied().unwrap_or(none))
     }
 }
 
@@ -112,9 +113,9 @@ impl Input for Case {
             found.push(Self { rows: without(&self.rows, from, to), ..self.clone() });
         }
         for (place, row) in self.rows.iter().enumerate().take(64) {
-            let offsets = smaller_numbers(row.offset).into_iter().map(|offset| Row { offset, ..*row });
-            let lens = smaller_numbers(row.len).into_iter().map(|len| Row { len, ..*row });
-            for row in offsets.chain(lens) {
+            let firsts = smaller_numbers(row.first).into_iter().map(|first| Row { first, ..*row });
+            let seconds = smaller_numbers(row.second).into_iter().map(|second| Row { second, ..*row });
+            for row in firsts.chain(seconds) {
                 let mut less = self.clone();
                 less.rows[place] = row;
                 found.push(less);
@@ -136,7 +137,7 @@ const OLD_64: u64 = 0xA5A5_A5A5_A5A5_A5A5;
 type Operation = (u8, u32, u32, u64, u8, u8);
 
 /// All that a replay leaves. Of log and marks the rows written, and whether any other cell was: those past the last row, and
-/// those past the column's end.
+/// those past the array's end.
 #[derive(PartialEq, Debug)]
 struct Left {
     number: u32,
@@ -262,10 +263,10 @@ fn ending(armed: Injection, kind: u8, len: u32, unit: u32) -> (usize, u32, u32) 
 impl Plain {
     fn call(&mut self, row: Row, pool: &[u8]) -> u32 {
         match row.kind {
-            0 => self.act(0, row.offset, row.len, &pool[row.start as usize..][..row.len as usize]),
-            1 => self.act(1, row.offset, row.len, &[]),
+            0 => self.act(0, row.first, row.second, &pool[row.start as usize..][..row.second as usize]),
+            1 => self.act(1, row.first, row.second, &[]),
             2 => self.act(2, 0, 0, &[]),
-            3 => self.mark(Some(row.id)),
+            3 => self.mark(Some(row.first)),
             _ => self.mark(None),
         }
     }
@@ -348,24 +349,43 @@ impl Plain {
     }
 }
 
-/// The numbers 1 to 3, 7, 12 and 13, but for the room that the ledger needs.
+/// What refuses a list, but for its units and for a ledger that it has no room for: each comes up alone in a comparison.
+const REASONS: [(u32, &str); 8] = [
+    (7, "media or copy not of the capacity's length"),
+    (12, "unequal columns of rows"),
+    (12, "unequal columns of the ledger"),
+    (12, "a range, kind 5"),
+    (12, "a kind above 5"),
+    (13, "more rows counted than the columns have"),
+    (13, "fewer answers than rows counted"),
+    (13, "bytes outside the pool"),
+];
+const NO_ROOM: (u32, &str) = (13, "a ledger shorter than its entries");
+
+/// Which of the reasons there are. Rows past those counted are not looked at.
+fn reasons(case: &Case, lengths: &[usize; LENGTHS]) -> [bool; 8] {
+    let uneven = |list: &[usize]| list.iter().any(|&len| len != list[0]);
+    let outside = |row: Row| row.kind == 0 && u64::from(row.start) + u64::from(row.second) > case.pool.len() as u64;
+    [
+        lengths[MEDIA..LEDGER].iter().any(|&len| len != case.units[0] as usize),
+        uneven(&lengths[TABLE..ANSWERS]),
+        uneven(&lengths[LEDGER..]),
+        case.held(lengths).any(|row| row.kind == 5),
+        case.held(lengths).any(|row| row.kind > 5),
+        lengths[TABLE] < lengths[COUNTED],
+        lengths[ANSWERS] < lengths[COUNTED],
+        case.held(lengths).any(outside),
+    ]
+}
+
+/// The numbers 1 to 3, 7, 12 and 13, but for the room that the ledger needs: "the lowest number comes first".
 fn refusal(case: &Case, lengths: &[usize; LENGTHS]) -> u32 {
     let units = units_number(case.units);
     if units != 0 {
         return units;
     }
-    if lengths[MEDIA..LOG].iter().any(|&len| len != case.units[0] as usize) {
-        return 7;
-    }
-    let lists = [&lengths[CALLS..ANSWERS], &lengths[LOG..NOTED], &lengths[NOTED..LEDGER], &lengths[LEDGER..]];
-    if lists.iter().any(|list| list.iter().any(|&len| len != list[0]))
-        || case.held(lengths[CALLS]).any(|row| row.kind > 4)
-    {
-        return 12;
-    }
-    let outside = |row: Row| row.kind == 0 && u64::from(row.start) + u64::from(row.len) > case.pool.len() as u64;
-    let short = lengths[LOG] < OPERATIONS || lengths[NOTED] < MARKS || lengths[ANSWERS] < lengths[CALLS];
-    if short || case.held(lengths[CALLS]).any(outside) { 13 } else { 0 }
+    let found = reasons(case, lengths);
+    REASONS.iter().zip(found).filter(|(_, holds)| *holds).map(|((number, _), _)| *number).min().unwrap_or(0)
 }
 
 /// The plain run of the calls on a new device, and their answers.
@@ -379,7 +399,7 @@ fn run_of(case: &Case, lengths: &[usize; LENGTHS]) -> (Plain, Vec<u32>) {
         marks: Vec::new(),
         stop: 0,
     };
-    let answers = case.held(lengths[CALLS]).map(|row| run.call(row, &case.pool)).collect();
+    let answers = case.held(lengths).map(|row| run.call(row, &case.pool)).collect();
     (run, answers)
 }
 
@@ -393,7 +413,7 @@ fn by_document(case: &Case) -> Left {
     let (run, answers) = run_of(case, &lengths);
     let ledger = run.ledger();
     if ledger.len() > lengths[LEDGER] {
-        left.number = 13;
+        left.number = NO_ROOM.0;
         return left;
     }
     left.entries = ledger.len() as u64;
@@ -415,7 +435,7 @@ fn by_document(case: &Case) -> Left {
 
 // ---- the proved one
 
-/// Log and marks, which are lent again and again. Longer than a session needs: up to three changes make a column up to six longer.
+/// Log and marks, which are lent again and again. Each is eight cells longer than the array that is lent.
 struct Kept {
     ops: Vec<u8>,
     spans: Vec<u32>,
@@ -485,48 +505,49 @@ impl Kept {
     }
 }
 
-/// The calls' columns.
+/// The table's columns.
 struct Columns {
     kinds: Vec<u8>,
-    ids: Vec<u32>,
-    offsets: Vec<u32>,
-    lens: Vec<u32>,
+    firsts: Vec<u32>,
+    seconds: Vec<u32>,
+    thirds: Vec<u32>,
     starts: Vec<u32>,
 }
 
 fn columns_of(case: &Case) -> Columns {
-    let [kinds, ids, offsets, lens, starts, ..] = case.lengths();
+    let [_, kinds, firsts, seconds, thirds, starts, ..] = case.lengths();
     Columns {
         kinds: case.column(|row| row.kind, kinds),
-        ids: case.column(|row| row.id, ids),
-        offsets: case.column(|row| row.offset, offsets),
-        lens: case.column(|row| row.len, lens),
+        firsts: case.column(|row| row.first, firsts),
+        seconds: case.column(|row| row.second, seconds),
+        thirds: case.column(|row| row.third, thirds),
         starts: case.column(|row| row.start, starts),
     }
 }
 
-// SAFETY: each pointer and length are those of a slice that nothing else uses during the call.
+/// The array that is lent: the beginning of a column that is kept.
+fn array<T, const N: usize>(column: &mut [T]) -> &mut [T; N] {
+    column.first_chunk_mut().expect("a column longer than the array")
+}
+
+// SAFETY: each pointer and length are those of a slice that nothing else uses during the call, and so is each array.
 #[rustfmt::skip]
 fn replay(case: &Case, calls: &Columns, kept: &mut Kept, left: &mut Left) {
     let told = told_of(case.units, case.rejected, case.armed);
-    let lengths = case.lengths();
-    let [.., ops_len, spans_len, sizes_len, digests_len, changed_len, answered_len, marks_len, named_len, places_len, _, _, _] = lengths;
-    let (ops, spans, sizes) = (&mut kept.ops[..ops_len], &mut kept.spans[..spans_len], &mut kept.sizes[..sizes_len]);
-    let (digests, changed) = (&mut kept.digests[..digests_len], &mut kept.changed[..changed_len]);
-    let (answered, marks) = (&mut kept.answered[..answered_len], &mut kept.marks[..marks_len]);
-    let (named, places) = (&mut kept.named[..named_len], &mut kept.places[..places_len]);
+    let counted = case.lengths()[COUNTED];
     let Left { number, entries, answers, media, copy, records, states, torn, .. } = left;
-    let Columns { kinds, ids, offsets, lens, starts } = calls;
+    let Columns { kinds, firsts, seconds, thirds, starts } = calls;
     *number = unsafe {
         replay_of_calls(
-            told.as_ptr(), told.len(), kinds.as_ptr(), kinds.len(), ids.as_ptr(), ids.len(),
-            offsets.as_ptr(), offsets.len(), lens.as_ptr(), lens.len(), starts.as_ptr(), starts.len(),
+            told.as_ptr(), told.len(), counted, kinds.as_ptr(), kinds.len(),
+            firsts.as_ptr(), firsts.len(), seconds.as_ptr(), seconds.len(),
+            thirds.as_ptr(), thirds.len(), starts.as_ptr(), starts.len(),
             case.pool.as_ptr(), case.pool.len(), answers.as_mut_ptr(), answers.len(), media.as_mut_ptr(), media.len(),
-            copy.as_mut_ptr(), copy.len(), ops.as_mut_ptr(), ops.len(), spans.as_mut_ptr(), spans.len(),
-            sizes.as_mut_ptr(), sizes.len(), digests.as_mut_ptr(), digests.len(), changed.as_mut_ptr(), changed.len(),
-            answered.as_mut_ptr(), answered.len(), marks.as_mut_ptr(), marks.len(), named.as_mut_ptr(), named.len(),
-            places.as_mut_ptr(), places.len(), records.as_mut_ptr(), records.len(), states.as_mut_ptr(), states.len(),
-            torn.as_mut_ptr(), torn.len(), entries,
+            copy.as_mut_ptr(), copy.len(), array(&mut kept.ops), array(&mut kept.spans),
+            array(&mut kept.sizes), array(&mut kept.digests), array(&mut kept.changed),
+            array(&mut kept.answered), array(&mut kept.marks), array(&mut kept.named), array(&mut kept.places),
+            records.as_mut_ptr(), records.len(), states.as_mut_ptr(), states.len(), torn.as_mut_ptr(), torn.len(),
+            entries,
         )
     };
 }
@@ -542,28 +563,39 @@ fn ours(case: &Case, kept: &mut Kept) -> Left {
 
 const PROGRAM: u8 = 0;
 const ERASE: u8 = 1;
-const BARRIER: Row = Row { kind: 2, id: 0, offset: 0, len: 0, start: 0 };
+const BARRIER: Row = Row { kind: 2, first: 0, second: 0, third: 0, start: 0 };
 const END: Row = Row { kind: 4, ..BARRIER };
 
 fn begin(id: u32) -> Row {
-    Row { kind: 3, id, ..BARRIER }
+    Row { kind: 3, first: id, ..BARRIER }
 }
 
-/// How often each number was answered, and how many records of each kind there were.
+/// How often each number was answered, each reason to refuse came up alone, and how many records of each kind there were.
 #[derive(Default)]
 struct Seen {
     calls: u64,
     answers: BTreeMap<u32, u64>,
     refusals: BTreeMap<u32, u64>,
+    alone: BTreeMap<(u32, &'static str), u64>,
     records: BTreeMap<(u8, u8), u64>,
 }
 
 impl Seen {
-    fn count(&mut self, left: &Left, calls: usize) {
+    fn count(&mut self, case: &Case, left: &Left) {
+        let lengths = case.lengths();
         if left.number != 0 {
             *self.refusals.entry(left.number).or_default() += 1;
+            if left.number > 3 {
+                let found = reasons(case, &lengths);
+                let mut held = REASONS.iter().zip(found).filter(|(_, holds)| *holds).map(|(reason, _)| *reason);
+                let (first, second) = (held.next(), held.next());
+                if second.is_none() {
+                    *self.alone.entry(first.unwrap_or(NO_ROOM)).or_default() += 1;
+                }
+            }
             return;
         }
+        let calls = lengths[COUNTED];
         self.calls += calls as u64;
         for &answer in &left.answers[..calls] {
             *self.answers.entry(answer).or_default() += 1;
@@ -585,8 +617,12 @@ impl Seen {
             records[0], records[1], records[2], records[3]
         );
         let answers = [0, 4, 5, 6, 20, 21, 22, 23, 27, 28].iter().all(|number| self.answers.contains_key(number));
+        for ((number, reason), times) in &self.alone {
+            println!("  refused by {number} for this alone, {reason}: {times}");
+        }
         let refusals = [1, 2, 3, 7, 12, 13].iter().all(|number| self.refusals.contains_key(number));
-        if answers && refusals && !records.contains(&0) {
+        let alone = REASONS.iter().chain([&NO_ROOM]).all(|reason| self.alone.contains_key(reason));
+        if answers && refusals && alone && !records.contains(&0) {
             return Ok(());
         }
         Err(Difference(String::from("no call, refusal or record of some kind was met")))
@@ -603,7 +639,7 @@ impl Sides {
     fn same(&self, comparison: &mut Comparison, case: &Case) -> Result<(), Difference> {
         let plain = |case: &Case| {
             let left = by_document(case);
-            self.seen.borrow_mut().count(&left, case.lengths()[CALLS]);
+            self.seen.borrow_mut().count(case, &left);
             left
         };
         comparison.same(case, plain, |case| ours(case, &mut self.kept.borrow_mut()))
@@ -635,7 +671,7 @@ fn compare(comparison: &mut Comparison) -> Result<(), Difference> {
 /// Eleven calls for a device: marks, a barrier, programs that land anew, over one another, with nothing and at an odd place, and
 /// erases of all and of a block.
 fn eleven([capacity, erase, unit, _]: [u32; 4]) -> ([Row; 11], Vec<u8>) {
-    let program = |offset, len, start| Row { kind: PROGRAM, id: 0, offset, len, start };
+    let program = |first, second, start| Row { kind: PROGRAM, first, second, third: 0, start };
     let half = unit as usize;
     let pool = [vec![0x00; half], vec![0xFF; half], vec![0xF0; half], vec![0x0F; half]].concat();
     let rows = [
@@ -648,8 +684,8 @@ fn eleven([capacity, erase, unit, _]: [u32; 4]) -> ([Row; 11], Vec<u8>) {
         program(unit, 2 * unit, 2 * unit),
         program(unit, 0, 0),
         program(if unit == 1 { capacity } else { 1 }, unit, 0),
-        Row { kind: ERASE, id: 0, offset: 0, len: capacity, start: 0 },
-        Row { kind: ERASE, id: 0, offset: erase, len: erase, start: 0 },
+        Row { kind: ERASE, first: 0, second: capacity, ..BARRIER },
+        Row { kind: ERASE, first: erase, second: erase, ..BARRIER },
     ];
     (rows, pool)
 }
@@ -709,22 +745,30 @@ fn every_cut(case: &Case) -> Vec<Injection> {
 /// A row of a random call; a program's bytes go to the end of the pool, or are those of an earlier one.
 fn random_row(random: &mut Random, units: [u32; 4], pool: &mut Vec<u8>) -> Row {
     match random_call(random, units) {
-        Call::Program(offset, bytes) => {
+        Call::Program(first, bytes) => {
             let len = bytes.len() as u32;
             if random.below(4) == 0 && bytes.len() <= pool.len() {
                 let start = random.below(pool.len() as u32 - len + 1);
-                return Row { kind: PROGRAM, id: 9, offset, len, start };
+                return Row { kind: PROGRAM, first, second: len, third: 0, start };
             }
             let start = pool.len() as u32;
             pool.extend(bytes);
-            Row { kind: PROGRAM, id: 9, offset, len, start }
+            Row { kind: PROGRAM, first, second: len, third: 0, start }
         }
-        Call::Erase(offset, len) => {
-            let len = if random.below(32) == 0 { 0u32.wrapping_sub(units[1]) } else { len };
-            Row { kind: ERASE, id: 9, offset, len, start: random.u32() }
+        Call::Erase(first, len) => {
+            let second = if random.below(32) == 0 { 0u32.wrapping_sub(units[1]) } else { len };
+            Row { kind: ERASE, first, second, ..BARRIER }
         }
-        Call::Barrier | Call::Read(..) => Row { offset: random.u32(), len: random.u32(), ..BARRIER },
+        Call::Barrier | Call::Read(..) => BARRIER,
     }
+}
+
+/// The row with any numbers where its kind reads none.
+fn with_unread(random: &mut Random, row: Row) -> Row {
+    let first = if row.kind == 2 || row.kind == 4 { random.u32() } else { row.first };
+    let second = if row.kind > 1 { random.u32() } else { row.second };
+    let start = if row.kind == PROGRAM { row.start } else { random.u32() };
+    Row { first, second, third: random.u32(), start, ..row }
 }
 
 fn random_cut(random: &mut Random, capacity: u32, operations: u32) -> Injection {
@@ -738,27 +782,36 @@ fn random_cut(random: &mut Random, capacity: u32, operations: u32) -> Injection 
     Injection { op: op as usize, progress, interruption: random.pick(&INTERRUPTIONS) }
 }
 
-/// Fewer calls than `end`.
+/// Fewer calls than `end`; every other time one row more, which is not counted and would be refused or taken.
 fn random_case(random: &mut Random, end: u32) -> Case {
     let units = random.pick(&DEVICES);
-    let mut pool = Vec::new();
-    let rows: Vec<Row> = (0..random.below(end))
-        .map(|place| match random.below(8) {
-            0 | 1 => begin(if random.below(8) == 0 { 1 } else { place }),
-            2 => END,
-            _ => random_row(random, units, &mut pool),
+    let (mut pool, mut changes) = (Vec::new(), Vec::new());
+    let mut rows: Vec<Row> = (0..random.below(end))
+        .map(|place| {
+            let row = match random.below(8) {
+                0 | 1 => begin(if random.below(8) == 0 { 1 } else { place }),
+                2 => END,
+                _ => random_row(random, units, &mut pool),
+            };
+            with_unread(random, row)
         })
         .collect();
     let operations = rows.iter().filter(|row| row.kind < 3).count() as u32;
     let armed = (random.below(8) != 0).then(|| random_cut(random, units[0], operations));
-    Case { units, rejected: random.below(2) == 1, armed, rows, pool, changes: Vec::new() }
+    if random.below(2) == 0 {
+        let kind = random.pick(&[0, 1, 2, 3, 4, 5, 255]);
+        rows.push(Row { kind, first: 0, second: random.pick(&[0, units[1], u32::MAX]), third: 0, start: random.u32() });
+        changes.push((COUNTED, -1));
+    }
+    Case { units, rejected: random.below(2) == 1, armed, rows, pool, changes }
 }
 
-/// Past the limits of operations, of marks, or of both.
+/// Past the limits of operations, of marks, or of both; every other time with a ledger of as many rows as begins are taken, or of one
+/// less.
 fn long_case(random: &mut Random) -> Case {
     let units = random.pick(&DEVICES);
     let (mut pool, marks) = (Vec::new(), random.pick(&[1, 4, 7]));
-    let rows = (0..1000 + random.below(2000))
+    let rows: Vec<Row> = (0..1000 + random.below(2000))
         .map(|place| match random.below(8) {
             mark if mark < marks => {
                 if random.below(4) == 0 {
@@ -775,7 +828,13 @@ fn long_case(random: &mut Random) -> Case {
     if random.below(2) == 0 {
         armed.interruption = Interruption::Failure;
     }
-    Case { units, rejected: random.below(2) == 1, armed: Some(armed), rows, pool, changes: Vec::new() }
+    let mut case = Case { units, rejected: random.below(2) == 1, armed: Some(armed), rows, pool, changes: Vec::new() };
+    if random.below(2) == 0 {
+        let taken = case.rows.iter().filter(|row| row.kind > 2).take(MARKS).filter(|row| row.kind == 3).count();
+        let by = taken as isize - case.lengths()[LEDGER] as isize - random.below(2) as isize;
+        case.changes.extend((LEDGER..LENGTHS).map(|place| (place, by)));
+    }
+    case
 }
 
 /// A list of a few calls with up to three changes, each most often a reason to refuse it.
@@ -787,9 +846,9 @@ fn changed_case(random: &mut Random) -> Case {
             0 => case.units[random.below(4) as usize] = random.pick(&[0, 1, 3, 12, 16]),
             1..4 => case.changes.push((random.below(LENGTHS as u32) as usize, by)),
             4 => case.changes.extend((LEDGER..LENGTHS).map(|place| (place, by))),
-            5 => case.changes.extend((CALLS..ANSWERS).map(|place| (place, by))),
-            6 => case.changes.extend((LOG..NOTED).map(|place| (place, by))),
-            7 => case.changes.extend((NOTED..LEDGER).map(|place| (place, by))),
+            5 => case.changes.extend((TABLE..ANSWERS).map(|place| (place, by))),
+            6 => case.changes.extend((COUNTED..ANSWERS).map(|place| (place, by))),
+            7 => case.changes.push((COUNTED, random.pick(&[by, isize::MAX]))),
             change => {
                 if case.rows.is_empty() {
                     continue;
@@ -813,7 +872,7 @@ fn bench(random: &mut Random) {
     let cases: Vec<Case> = (0..512)
         .map(|_| {
             let mut case = random_case(random, 41);
-            while case.rows.len() < 40 {
+            while case.lengths()[COUNTED] != 40 {
                 case = random_case(random, 41);
             }
             Case { armed: None, ..case }

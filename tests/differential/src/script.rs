@@ -125,7 +125,20 @@ fn told(answer: Result<Head, (u32, u32)>, rows: &Rows) -> Reply {
     }
 }
 
-/// The reader makes lists; here columns are lent. Unequal ones are held to 12 and short ones to 13, both with line 0 and
+/// The lent column of kinds has a code for each of the reader's letters.
+fn code(letter: u8) -> u8 {
+    match letter {
+        b'P' => 0,
+        b'E' => 1,
+        b'S' => 2,
+        b'B' => 3,
+        b'N' => 4,
+        b'M' => 5,
+        _ => panic!("the reader gives no other letter than these: {letter}"),
+    }
+}
+
+/// The reader makes lists; here columns are lent, with codes for letters. Unequal ones are held to 12 and short ones to 13, both with line 0 and
 /// after the script's own numbers; a refusal leaves every cell, and what is past the last row stays as it was.
 fn held(text: &[u8], mut rows: Rows) -> Answer {
     let mut made = Rows::default();
@@ -143,7 +156,9 @@ fn held(text: &[u8], mut rows: Rows) -> Answer {
     if let Some(refusal) = refusal {
         return Answer { counted, read: told(Err(refusal), &made), rows };
     }
-    rows.kinds[..calls].copy_from_slice(&made.kinds);
+    for (kind, &letter) in rows.kinds.iter_mut().zip(&made.kinds) {
+        *kind = code(letter);
+    }
     rows.firsts[..calls].copy_from_slice(&made.firsts);
     rows.seconds[..calls].copy_from_slice(&made.seconds);
     rows.thirds[..calls].copy_from_slice(&made.thirds);

@@ -19,7 +19,7 @@ pub struct Head {
     pub carries_on: bool,
 }
 
-/// The calls, a row for each: its letter, up to three numbers (0 for none; a program's second is how many bytes it has), and
+/// The calls, a row for each: its letter (in lent columns a code, script.rs), up to three numbers (0 for none; a program's second is how many bytes it has), and
 /// where in the pool its bytes start.
 #[derive(Clone, Default, PartialEq, Debug)]
 pub struct Rows {

@@ -6,7 +6,7 @@ use lib.ListN.{length}
 use borrow.Author.Needs.{needs}
 use Rattle.script.specs.Columns.{Columns, columns}
 use Rattle.script.specs.Held.{callsIn}
-use Rattle.script_rows.proofs.Rows.{rowsAt}
+use Rattle.rows.proofs.Rows.{rowsAt}
 use Rattle.sweeps.specs.Decided.{rangeBehind}
 use Rattle.harness.proofs.Behind.{behind-first, behind-found, behind-next, behind-none}
 use Rattle.harness.proofs.range_behind.Statement.{statement}

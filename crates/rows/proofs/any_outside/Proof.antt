@@ -4,18 +4,18 @@ use Prim.Native.Nat.{_-_, _≤_, min}
 use native.Mathlib.Omega.{arith}
 use lib.ListN.{length, drop}
 use borrow.Author.Needs.{needs}
-use Rattle.rows.specs.Tests.{anyOutside}
+use Rattle.rows.specs.Rows.{anyOutside}
 use Rattle.rows.proofs.Outside.{outside-found, outside-next, outside-none}
 use Rattle.rows.proofs.any_outside.Statement.{statement}
 use Rattle.rows.proofs.any_outside.Tie as tie
 
 abbrev Inv-loop : tie.InvT-loop
-Inv-loop code kinds lens starts pool both rows i₀ i =
+Inv-loop kinds lens starts pool both rows i₀ i =
     (i ≤ rows) × (both ≡ min (length kinds) (length lens)) × (rows ≡ min both (length starts))
-    × (anyOutside code pool kinds lens starts ≡ anyOutside code pool (drop i kinds) (drop i lens) (drop i starts))
+    × (anyOutside pool kinds lens starts ≡ anyOutside pool (drop i kinds) (drop i lens) (drop i starts))
 
 abbrev μ-loop : tie.MeasureT-loop
-μ-loop code kinds lens starts pool both rows i₀ i = rows - i
+μ-loop kinds lens starts pool both rows i₀ i = rows - i
 
 lower-requires : tie.Need-lower-requires Inv-loop μ-loop
 lower-requires c κs = search needs
@@ -48,7 +48,7 @@ returns : tie.Need-returns Inv-loop μ-loop
 returns c =
     let s = c .before .before .before .before .before .before .before .before .before .before .before .before in
     let l = c .before .before .before .before .before .before in
-    outside-found (s .args .code) (s .args .pool) (s .args .kinds .now) (s .args .lens .now) (s .args .starts .now) _ _ (l .loop .inv .1) (l .loop .inv .2) (l .loop .i) (l .loop .inv .3) (omega arith) _ (c .before .is-outside .ensures) (c .if1 .taken)
+    outside-found (s .args .pool) (s .args .kinds .now) (s .args .lens .now) (s .args .starts .now) _ _ (l .loop .inv .1) (l .loop .inv .2) (l .loop .i) (l .loop .inv .3) (omega arith) _ (c .before .is-outside .ensures) (c .if1 .taken)
 
 add-i : tie.Need-add-i Inv-loop μ-loop
 add-i c = omega (arith, c .before .before .before .before .before .before .loop .inv .1, c .before .before .before .before .before .before .loop .inv .2)
@@ -60,13 +60,13 @@ loop-again : tie.Need-loop-again Inv-loop μ-loop
 loop-again c =
     let s = c .before .before .before .before .before .before .before .before .before .before .before .before in
     let l = c .before .before .before .before .before .before in
-    (omega arith, l .loop .inv .1, l .loop .inv .2, outside-next (s .args .code) (s .args .pool) (s .args .kinds .now) (s .args .lens .now) (s .args .starts .now) _ _ (l .loop .inv .1) (l .loop .inv .2) (l .loop .i) (l .loop .inv .3) (omega arith) _ (c .before .is-outside .ensures) (c .if1 .left))
+    (omega arith, l .loop .inv .1, l .loop .inv .2, outside-next (s .args .pool) (s .args .kinds .now) (s .args .lens .now) (s .args .starts .now) _ _ (l .loop .inv .1) (l .loop .inv .2) (l .loop .i) (l .loop .inv .3) (omega arith) _ (c .before .is-outside .ensures) (c .if1 .left))
 
 returns-2 : tie.Need-returns-2 Inv-loop μ-loop
 returns-2 c =
     let s = c .before .before .before .before .before .before .before in
     let l = c .before in
-    outside-none (s .args .code) (s .args .pool) (s .args .kinds .now) (s .args .lens .now) (s .args .starts .now) _ _ (l .loop .inv .1) (l .loop .inv .2) (l .loop .i) (l .loop .inv .3) (omega arith)
+    outside-none (s .args .pool) (s .args .kinds .now) (s .args .lens .now) (s .args .starts .now) _ _ (l .loop .inv .1) (l .loop .inv .2) (l .loop .i) (l .loop .inv .3) (omega arith)
 
 pub any-outside-spec : {M : Type 1} → statement M
 any-outside-spec =

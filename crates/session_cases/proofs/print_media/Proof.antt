@@ -13,8 +13,8 @@ abbrev μ-loop : tie.MeasureT-loop
 loop-holds : tie.Need-loop-holds Inv-loop μ-loop
 loop-holds c = search needs
 
-array-read-print-byte : tie.Need-array-read-print-byte Inv-loop μ-loop
-array-read-print-byte c = search needs
+element-copy-out-print-byte : tie.Need-element-copy-out-print-byte Inv-loop μ-loop
+element-copy-out-print-byte c = search needs
 
 print-byte-requires : tie.Need-print-byte-requires Inv-loop μ-loop
 print-byte-requires c κs = search needs
@@ -34,4 +34,4 @@ returns c = search needs
 pub print-media-spec : {M : Type 1} → statement M
 print-media-spec =
     tie.close
-    (tie.spec Inv-loop μ-loop loop-holds array-read-print-byte print-byte-requires add-place loop-less loop-again returns)
+    (tie.spec Inv-loop μ-loop loop-holds element-copy-out-print-byte print-byte-requires add-place loop-less loop-again returns)

@@ -40,6 +40,9 @@ number-at-requires-10 c κs = search needs
 armed-of-requires : tie.Need-armed-of-requires
 armed-of-requires c κs = search needs
 
+told-with-requires : tie.Need-told-with-requires
+told-with-requires c κs = tt
+
 returns : tie.Need-returns
 unfolding toldOf
 returns c = cc
@@ -60,4 +63,5 @@ told-of-spec =
     number-at-requires-9
     number-at-requires-10
     armed-of-requires
+    told-with-requires
     returns)

@@ -1,2 +1,0 @@
--- Lent columns cleared. Definitions only; assumes nothing.
-pub mod Cleared

@@ -1,0 +1,2 @@
+-- A table of rows through a session. Definitions only; assumes nothing.
+pub mod Run

@@ -1,4 +1,0 @@
--- Laws of the tests of a script's rows.
-pub mod Scanned
-pub mod Numbers
-pub mod Rows

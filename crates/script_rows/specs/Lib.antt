@@ -1,3 +1,0 @@
--- The tests of a script's rows. Definitions only; assumes nothing.
-pub mod Rows
-pub mod Ready
