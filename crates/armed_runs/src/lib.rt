@@ -1,5 +1,7 @@
 // What each run of a sweep is told and what is armed in it: line 1 of the script, nothing in run 0, then the crash points of the
 // fault-free run's operations, in order.
+#![tactic(auto)]
+
 ghost use Rattle.std.specs.Prelude.{◌≡◌};
 ghost use Rattle.sweeps.specs.Sweep.{rule_of, told_by};
 ghost use Rattle.armed_runs.specs.Places.{free_by, placed_at};
@@ -11,7 +13,7 @@ use session::{Armed, Told};
 use storage::Geometry;
 
 // What is armed in the run at a place; or the number that refuses the place.
-#[derive(Drop)]
+#[derive(Clone, Copy)]
 pub enum Placed {
     Run(Armed),
     NoRun(u32),

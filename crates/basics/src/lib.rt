@@ -1,5 +1,7 @@
 // What every layer would else write again: which of two tests refuses, the lower of two numbers, and a store into a lent column
 // that no index can make go wrong. The definitions and laws that the other crates cite are in specs/ and proofs/.
+#![tactic(auto)]
+
 ghost use Rattle.std.specs.Prelude.{◌≡◌, [], ◌∷◌, ◌≤◌, min, set};
 ghost use Rattle.basics.specs.Tests.{first_of};
 

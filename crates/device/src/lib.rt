@@ -3,6 +3,8 @@
 // says what a write would leave; `device_questions` compares lent bytes with them, and `device_calls` has the device's own
 // calls, which a geometry checks. Every contract is an equation: the whole answer and what every lent slice holds at the
 // end, after a refusal too.
+#![tactic(auto)]
+
 ghost use Rattle.std.specs.Prelude.{◌≡◌, not, length, replicate};
 ghost use Rattle.device.specs.Media.{ff, new_media, anded, any_pair, unequal, Applied, applied, programmed, erased, postimage, erase_would_change};
 ghost use Rattle.device.specs.Answers.{number_of_postimage, Copied, copied};
@@ -15,7 +17,7 @@ pub const ERASED: u8 = 0xFF;
 const BLOCK: usize = 128;
 
 // What a program does that asks for a bit which the media have already cleared.
-#[derive(Drop)]
+#[derive(Clone, Copy)]
 pub enum OneWayBits {
     // Clear the bits that can be cleared and ignore the rest, as hardware does.
     Absorbed,
@@ -24,7 +26,7 @@ pub enum OneWayBits {
 }
 
 // What `postimage_of` answers: how many cells it wrote, or that the buffer is shorter than the result.
-#[derive(Drop)]
+#[derive(Clone, Copy)]
 pub enum Postimage {
     Cells(usize),
     BufferTooShort,

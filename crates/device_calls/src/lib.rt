@@ -2,6 +2,8 @@
 // the Rust's Device owns its bytes, its geometry and its bit rule, here the caller hands them in, so each call tests the
 // geometry and the media's length too (1 to 3, 7). Every contract is an equation: the whole reply and what every lent slice
 // holds at the end, after a refusal too.
+#![tactic(auto)]
+
 ghost use Rattle.std.specs.Prelude.{◌≡◌, [], ◌∷◌, length};
 ghost use Rattle.basics.specs.Tests.{first_of};
 ghost use Rattle.storage.specs.Geometry.{geometry_test};
@@ -16,7 +18,7 @@ use storage::{Geometry, GeometryError, Validated};
 const LONGEST: usize = 0xFFFF_FFFF;
 
 // Anything a modelled device can refuse to do.
-#[derive(Drop)]
+#[derive(Clone, Copy)]
 pub enum FaultError {
     // The operation is not one this geometry permits.
     Geometry(GeometryError),
@@ -33,7 +35,7 @@ pub enum FaultError {
 }
 
 // What the device's own calls answer.
-#[derive(Drop)]
+#[derive(Clone, Copy)]
 pub enum Reply {
     Accepted,
     Refused(FaultError),

@@ -3,6 +3,8 @@
 // inputs, and was made by
 //     tests/differential/run sample device > crates/device_cases/stdout
 // The tables and the order of the cases are those of `sample` in tests/differential/src/device.rs.
+#![tactic(auto)]
+
 ghost use Rattle.std.specs.Prelude.{◌<◌};
 
 use device::{OneWayBits, Postimage};

@@ -3,6 +3,8 @@
 // numbers, so that a comparison of the numbers is one of the layer: a geometry is its four units, a bit rule is 0 for
 // Absorbed and any other number for Rejected, a yes or no is 1 or 0, and any other answer is document 01's number, 0 where
 // nothing is refused. A slice crosses as a pointer, then a length.
+#![tactic(auto)]
+
 ghost use Rattle.std.specs.Prelude.{◌≡◌, length};
 ghost use Rattle.basics.specs.Tests.{flag};
 ghost use Rattle.storage.specs.Geometry.{geometry_of};

@@ -1,6 +1,8 @@
 // The two questions that hold lent bytes against the cells at their place: whether programming them would ask for a bit that
 // only an erase restores, and whether the media differ from them. Follows waymaker-fault's device.rs; the definitions and
 // their laws are `device`'s. (That an erase would change a cell, and what a program would leave, are asked in `device`.)
+#![tactic(auto)]
+
 ghost use Rattle.std.specs.Prelude.{◌≡◌, length};
 ghost use Rattle.device.specs.Media.{any_pair, unequal, sets_aBit, would_set_aBit, differs_from};
 

@@ -1,5 +1,7 @@
 // The digest of the bytes that a program call is handed: FNV-1a, 64 bits. Follows `digest` of waymaker-fault's session.rs.
 // A run's digests are compared with another's, so that bytes need not be kept.
+#![tactic(auto)]
+
 ghost use Rattle.std.specs.Prelude.{◌≡◌, ◌*◌, ◌%◌, ◌^◌};
 ghost use Rattle.digest.specs.Fnv.{digest_of};
 

@@ -1,5 +1,7 @@
 // FNV-1a's published vectors, 64 bits: a text and its digest in hexadecimal to a line. The expected output, stdout, holds the values
 // that FNV's authors publish with their test suite (the ones without a terminating zero byte).
+#![tactic(auto)]
+
 use libc::STDOUT_FILENO;
 
 fn show(text: &[u8]) {

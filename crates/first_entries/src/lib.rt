@@ -1,6 +1,8 @@
 // What a ledger says of an id, after model.rs: the state of its first entry, and whether that is torn. The ledger is three lent
 // columns, as in `model`, and columns that hold none are refused with 12. Each promise is an equation with a definition of
 // specs/.
+#![tactic(auto)]
+
 ghost use Rattle.std.specs.Prelude.{◌≡◌};
 ghost use Rattle.model.specs.Columns.{state_of};
 ghost use Rattle.first_entries.specs.Answers.{state_asked, torn_asked};
@@ -9,7 +11,7 @@ use id_columns::Place;
 use model::Durability;
 
 // The state of an id's first entry.
-#[derive(Drop)]
+#[derive(Clone, Copy)]
 pub enum StateAnswer {
     StateRefused(u8),
     NoState,
@@ -17,7 +19,7 @@ pub enum StateAnswer {
 }
 
 // Whether an id's first entry is torn.
-#[derive(Drop)]
+#[derive(Clone, Copy)]
 pub enum TornAnswer {
     TornRefused(u8),
     NoTorn,

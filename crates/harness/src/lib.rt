@@ -1,6 +1,8 @@
 // A sweep, opened: the fault-free run of a script's rows, which tells how many crash points there are or why there is no
 // sweep. It follows `Harness` in waymaker-fault's session.rs, with a script's rows for its closure. `harness_runs` has the run, and
 // `armed_runs` what is armed in each.
+#![tactic(auto)]
+
 ghost use Rattle.std.specs.Prelude.{◌≡◌, ◌≤◌, min, length};
 ghost use Rattle.script.specs.Columns.{columns};
 ghost use Rattle.script.specs.Held.{calls_in};
@@ -16,7 +18,7 @@ use session::Armed;
 
 // What opening a sweep answers: how many operations the fault-free run recorded, and how many crash points they have; or the
 // number that refuses the sweep.
-#[derive(Drop)]
+#[derive(Clone, Copy)]
 pub enum Opened {
     Runs(usize, u64),
     NotSwept(u32),

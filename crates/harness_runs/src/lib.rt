@@ -1,6 +1,8 @@
 // One run of a sweep: a script's run with at most one injection, and its ledger. It is `Harness::run_one` of waymaker-fault's
 // session.rs, and, with nothing armed, `run_fault_free`. The digests, the flags and the marks of its session are columns that nobody
 // looks at afterwards: they are the run's own, of zeros.
+#![tactic(auto)]
+
 ghost use Rattle.std.specs.Prelude.{◌≡◌};
 ghost use Rattle.session.specs.Start.{fresh};
 ghost use Rattle.ledger.specs.Ledger.{entered_of};
@@ -15,7 +17,7 @@ use session::{Armed, Counters};
 
 // How a run ended: the session's stop, the operations recorded, how many entries its ledger has, and whether the writer returned an
 // error; or the number that refuses the run.
-#[derive(Drop)]
+#[derive(Clone, Copy)]
 pub enum Ran {
     Ended(Stop, usize, usize, bool),
     NotRun(u32),

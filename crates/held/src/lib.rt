@@ -3,6 +3,8 @@
 // up to there must be those that the crash points were listed from; a run in which they differ, or in which nothing fired, is no
 // run. The caller lends what the two sessions kept; nothing of it is changed. The contract of `held_to` is an equation for every
 // input: columns are tested first (12, 13).
+#![tactic(auto)]
+
 ghost use Rattle.std.specs.Prelude.{◌≡◌, suc, ◌+◌, ◌≤◌, min, length, take, drop, eqb};
 ghost use Rattle.inject.specs.Ops.{op_of, ops_of};
 ghost use Rattle.model.specs.Columns.{all_up_to};
@@ -15,7 +17,7 @@ use model::all_up_to;
 use session::{Counters, MARKS, OPERATIONS};
 
 // What is given of a run: the fault-free one relabelled, the run itself, or none, with document 01's number.
-#[derive(Drop)]
+#[derive(Clone, Copy)]
 pub enum Held {
     Relabelled,
     Kept,

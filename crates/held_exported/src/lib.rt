@@ -1,6 +1,8 @@
 // The layer `held` for callers in Rust or C, which tests/differential holds against the original Rust: numbers and lent slices
 // in, a number out. An injection crosses as four codes and a run's counters as six, as in `session_numbers`. A slice crosses as a
 // pointer, then a length.
+#![tactic(auto)]
+
 ghost use Rattle.std.specs.Prelude.{◌≡◌};
 ghost use Rattle.held.specs.Held.{recorded_of, held_call};
 ghost use Rattle.session_numbers.specs.Numbers.{progress_of, interruption_of, counters_of};

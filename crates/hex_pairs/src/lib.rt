@@ -1,6 +1,8 @@
 // Bytes as hexadecimal pairs in lower case: whether a field is such pairs, and the bytes that they stand for. Document 01,
 // "Scripts and the two programs", says what they may look like; they are the last field of their line, so an LF ends them.
 // No function asks anything of its caller: past the text's end there are no pairs.
+#![tactic(auto)]
+
 ghost use Rattle.std.specs.Prelude.{◌≡◌, ◌-◌, ◌/◌, ◌≤◌, min, length, drop};
 ghost use Rattle.text.specs.Fields.{field_to};
 ghost use Rattle.text.specs.Pairs.{is_hex, all_hex};
@@ -10,7 +12,7 @@ ghost use Rattle.hex_pairs.specs.Inner.{Skipped, Stopped, Nibble};
 use text::LF;
 
 // How many hexadecimal pairs a field is, and the next place.
-#[derive(Drop)]
+#[derive(Clone, Copy)]
 pub enum Pairs {
     Paired(usize, usize),
     NoPairs,

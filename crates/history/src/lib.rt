@@ -2,6 +2,8 @@
 // ledger comes as `model`'s three columns, and the ids go into a column that the caller lends. Columns that hold no ledger are
 // refused with 12 and a column that is too short with 13; then nothing is written. Each promise is an equation with a
 // definition of specs/.
+#![tactic(auto)]
+
 ghost use Rattle.std.specs.Prelude.{◌≡◌, ◌++◌, ◌≤◌, length, drop};
 ghost use Rattle.model.specs.Answers.{Written};
 ghost use Rattle.model.specs.Columns.{entry_of, ledger_of};

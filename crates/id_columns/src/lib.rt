@@ -1,10 +1,12 @@
 // Ids in a lent column: whether one stands there, and where it first does. Where oracle.rs asks a set, a column is scanned, by
 // blocks of 32. Each promise is an equation with a definition of specs/.
+#![tactic(auto)]
+
 ghost use Rattle.std.specs.Prelude.{◌≡◌, false, ◌≤◌, length, take};
 ghost use Rattle.id_columns.specs.Ids.{has, place_of};
 
 // Where an id first stands in a column.
-#[derive(Drop)]
+#[derive(Clone, Copy)]
 pub enum Place {
     NoPlace,
     PlaceIs(usize),

@@ -2,6 +2,8 @@
 // a lent column. The ledger is three lent columns, as in `model`: columns that hold none are refused with 12, and a lent
 // column that is too short for the result with 13; a refusal changes nothing. Each promise is an equation with a definition
 // of specs/.
+#![tactic(auto)]
+
 ghost use Rattle.std.specs.Prelude.{◌≡◌, ◌≤◌, length, drop, ◌++◌};
 ghost use Rattle.model.specs.Answers.{Written};
 ghost use Rattle.model.specs.Scans.{ids_from};

@@ -3,6 +3,8 @@
 // `injections_of` of specs/Points.antt, and each function's contract is an equation with it, for every input. A list of
 // operations is three columns of one length: kinds (0 a program, 1 an erase, 2 a barrier), offsets and lengths in bytes.
 // The spans are any u32: no point depends on where the device ends, so nothing here asks it.
+#![tactic(auto)]
+
 ghost use Rattle.std.specs.Prelude.{◌≡◌, [], ◌∷◌, ◌*◌, ◌≤◌, ◌<◌, ◌^◌, length, get_or, replicate};
 ghost use Rattle.inject.specs.Ops.{op_of, ops_of, known, len_of};
 ghost use Rattle.inject.specs.Points.{inner, whole_span, whole_point, under};
@@ -12,7 +14,7 @@ ghost use Rattle.inject.specs.Steps.{Sound, tear_unit, reset_unit, steps, groupe
 use storage::Geometry;
 
 // One operation of a write sequence: offsets and lengths only.
-#[derive(Drop)]
+#[derive(Clone, Copy)]
 pub enum Op {
     Program { offset: u32, len: u32 },
     Erase { offset: u32, len: u32 },
@@ -20,7 +22,7 @@ pub enum Op {
 }
 
 // How much of an operation reached the media.
-#[derive(Drop)]
+#[derive(Clone, Copy)]
 pub enum Progress {
     // None of it.
     None,
@@ -31,7 +33,7 @@ pub enum Progress {
 }
 
 // What the interruption looks like to the writer.
-#[derive(Drop)]
+#[derive(Clone, Copy)]
 pub enum Interruption {
     // The power went away: nothing after it runs.
     PowerLoss,
@@ -42,7 +44,7 @@ pub enum Interruption {
 }
 
 // One crash point: which operation, how far into it, and what the writer sees.
-#[derive(Drop)]
+#[derive(Clone, Copy)]
 pub struct Injection {
     // The operation's index. For the point before the whole list it is 0, also where the list is empty.
     pub op: usize,
@@ -51,14 +53,14 @@ pub struct Injection {
 }
 
 // How many crash points a list has, or document 01's number that refuses it.
-#[derive(Drop)]
+#[derive(Clone, Copy)]
 pub enum Counted {
     Points(u64),
     NotCounted(u32),
 }
 
 // The crash point at a place, or the number that refuses it.
-#[derive(Drop)]
+#[derive(Clone, Copy)]
 pub enum Found {
     Point(Injection),
     NotFound(u32),
@@ -66,7 +68,7 @@ pub enum Found {
 
 // One operation's points under one interruption: how many none points (0 or 1), how many byte points, which are the first
 // multiples of a unit, and how many whole points (0 or 1).
-#[derive(Drop)]
+#[derive(Clone, Copy)]
 pub struct Group {
     pub nones: u32,
     pub unit: u32,
@@ -75,7 +77,7 @@ pub struct Group {
 }
 
 // A part of the list, searched for a place: the point, or how far past the part the place lies.
-#[derive(Drop)]
+#[derive(Clone, Copy)]
 enum Sought {
     At(Injection),
     Past(u64),

@@ -4,6 +4,8 @@
 // src/ has what the Rust answers to the same inputs, and was made by
 //     tests/differential/run sample inject > crates/inject_cases/stdout
 // The tables and the order of the cases are those of `sample` in tests/differential/src/inject.rs.
+#![tactic(auto)]
+
 ghost use Rattle.std.specs.Prelude.{◌≡◌, ◌≤◌, ◌<◌, length};
 
 use inject::{Counted, Found, Injection, Interruption, Progress};

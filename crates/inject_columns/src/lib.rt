@@ -1,6 +1,8 @@
 // All crash points of a list of operations, written to lent columns. Follows waymaker-fault's inject.rs, whose `injections`
 // returns a Vec; the points, their order and their count are `inject`'s. The contract is an equation: the answer and what
 // every lent column holds at the end, after a refusal too.
+#![tactic(auto)]
+
 ghost use Rattle.std.specs.Prelude.{◌≡◌, [], ◌∷◌, map, ◌+◌, ◌*◌, ◌<◌, ◌^◌, length, replicate};
 ghost use Rattle.inject.specs.Ops.{ops_of};
 ghost use Rattle.inject.specs.Points.{point, under};
@@ -13,7 +15,7 @@ use inject::{Counted, Group, Injection, Interruption, Progress};
 use storage::Geometry;
 
 // All points are written, this many; or the number that refuses, with nothing written.
-#[derive(Drop)]
+#[derive(Clone, Copy)]
 pub enum Written {
     All(usize),
     NotWritten(u32),

@@ -3,6 +3,8 @@
 // numbers, so that a comparison of the numbers is one of the layer: a list of operations is three columns, a geometry is its
 // four units, a point is its row of the layer's columns, an answer is document 01's number, 0 where nothing is refused. A
 // slice crosses as a pointer, then a length; a reference as a pointer.
+#![tactic(auto)]
+
 ghost use Rattle.std.specs.Prelude.{◌≡◌};
 ghost use Rattle.storage.specs.Geometry.{geometry_of};
 ghost use Rattle.inject.specs.Answers.{count_test, place_test, progress_code, count_code, interruption_code};

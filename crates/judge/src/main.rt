@@ -1,5 +1,7 @@
 // A script on standard input; on standard output the verdict and the suggested history of every run, or what refuses it
 // (document 01, "Scripts and the two programs"). A script that cannot be read to its end is not run.
+#![tactic(auto)]
+
 use libc::STDIN_FILENO;
 use printing::ENOUGH;
 

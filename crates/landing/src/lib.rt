@@ -1,6 +1,8 @@
 // What an injection does to the operation it is armed on: how much of it lands, whether it completed, and how it ends.
 // Follows `landed`, `landed_at`, `erase_landed_at`, `unit_completed`, `completed` and `interrupt` of waymaker-fault's
 // session.rs. The session and the plain run of whole lists of calls share these definitions, since document 01 says them once.
+#![tactic(auto)]
+
 ghost use Rattle.std.specs.Prelude.{◌≡◌};
 ghost use Rattle.landing.specs.Landed.{offered, rounded_up, rounded_down, program_landed, erase_landed, ran};
 ghost use Rattle.landing.specs.Ending.{row_of, ending_of, stop_number};
@@ -8,7 +10,7 @@ ghost use Rattle.landing.specs.Ending.{row_of, ending_of, stop_number};
 use inject::{Injection, Interruption, Progress};
 
 // Whether a session still runs, or the reset that ended it.
-#[derive(Drop)]
+#[derive(Clone, Copy)]
 pub enum Stop {
     Running,
     PowerLost,
@@ -16,7 +18,7 @@ pub enum Stop {
 }
 
 // How an armed operation ends: document 01's number that it answers, and the stop that it leaves.
-#[derive(Drop)]
+#[derive(Clone, Copy)]
 pub struct Ending {
     pub answer: u32,
     pub stop: Stop,

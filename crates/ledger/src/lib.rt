@@ -5,6 +5,8 @@
 //
 // What does not depend on the record is found once (`records::Facts`); then each record's own operations are looked at once. So
 // the cost grows with the operations, the marks and the records' own lengths.
+#![tactic(auto)]
+
 ghost use Rattle.std.specs.Prelude.{◌≡◌, ◌+◌, ◌≤◌, ◌<◌, length, take, drop, get_or};
 ghost use Rattle.model.specs.Columns.{all_up_to};
 ghost use Rattle.session.specs.Log.{log_of, marks_of};
@@ -18,7 +20,7 @@ use session::{Counters, MARKS, OPERATIONS, Told};
 use storage::Geometry;
 
 // How many entries the ledger has, or document 01's number that refuses.
-#[derive(Drop)]
+#[derive(Clone, Copy)]
 pub enum Derived {
     Entries(usize),
     NotDerived(u32),

@@ -1,6 +1,8 @@
 // The layer `ledger` for callers in Rust or C, which tests/differential holds against the original Rust: numbers and lent slices
 // in, a number out. What the start was told and the counters cross as in `session_numbers`. A slice crosses as a pointer, then a
 // length.
+#![tactic(auto)]
+
 ghost use Rattle.std.specs.Prelude.{◌≡◌};
 ghost use Rattle.session.specs.Log.{log_of, marks_of};
 ghost use Rattle.ledger.specs.Ledger.{entered_of, ledger_call};

@@ -1,5 +1,7 @@
 // A text of 65,537 bytes on standard input, one more than a script may have. But for its last byte it is a script, so that reading
 // one byte too few would show: both programs refuse it with 9, on line 0.
+#![tactic(auto)]
+
 use libc::STDIN_FILENO;
 use printing::ENOUGH;
 

@@ -2,6 +2,8 @@
 // two programs"): fields parted by tabs, an LF at the end. A line is measured before it is written, so that one which does not
 // fit from the place where it should start is refused with 13 and changes nothing. A run's line of `sweep` is in `sweep_lines`.
 // Each promise is an equation with a definition of specs/.
+#![tactic(auto)]
+
 ghost use Rattle.std.specs.Prelude.{◌≡◌, ◌+◌, length, leb};
 ghost use mathlib.Core.List.{map, flatten};
 ghost use Rattle.text.specs.Numbers.{decimal_of};
@@ -13,7 +15,7 @@ use pieces::{fits, put_byte, put_field, put_number, put_word};
 use text::LF;
 
 // The place past a line's LF; or the number that refuses it, and then nothing is written.
-#[derive(Drop)]
+#[derive(Clone, Copy)]
 pub enum Line {
     Past(usize),
     NotWritten(u8),

@@ -2,12 +2,14 @@
 // it is torn. A ledger is three lent columns of one length: ids, states (0 attempted, 1 possibly durable, 2 acknowledged) and
 // torn (0 or 1). Columns that hold no ledger are refused with 12. What is asked of an id's first entry is in `first_entries`,
 // and the committed and the acknowledged ids are in `ids_by_state`. Each promise is an equation with a definition of specs/.
+#![tactic(auto)]
+
 ghost use Rattle.std.specs.Prelude.{◌≡◌};
 ghost use Rattle.model.specs.Columns.{all_up_to, refused};
 ghost use Rattle.model.specs.Answers.{len_asked};
 
 // What recovery is allowed, and required, to do with a record.
-#[derive(Drop)]
+#[derive(Clone, Copy)]
 pub enum Durability {
     // Nothing of it reached media. Recovery must not produce it.
     Attempted,
@@ -18,7 +20,7 @@ pub enum Durability {
 }
 
 // How many entries or ids there are.
-#[derive(Drop)]
+#[derive(Clone, Copy)]
 pub enum ListAnswer {
     ListRefused(u8),
     ListIs(usize),

@@ -2,6 +2,8 @@
 // bank count. The ledger is three lent columns, as in `model`. One verdict for every input, the first breach in the order of
 // the tests, with its values: each promise is an equation with a definition of specs/. What a verdict 0 means is a theorem
 // (`oracle_legal`). No set is at hand, so ids are sought by scans of the lent lists.
+#![tactic(auto)]
+
 ghost use Rattle.std.specs.Prelude.{◌≡◌, [], length};
 ghost use Rattle.model.specs.Columns.{ledger_of};
 ghost use Rattle.model.specs.Scans.{ids_from};
@@ -11,21 +13,21 @@ ghost use Rattle.oracle.specs.Scans.{lesser_of, faulty_id, least_faulty};
 use id_columns::Place;
 
 // An id, or none.
-#[derive(Drop)]
+#[derive(Clone, Copy)]
 pub enum RecordOption {
     NoRecord,
     Record(u32),
 }
 
 // How many banks a reader would have booted from, if its caller has banks at all.
-#[derive(Drop)]
+#[derive(Clone, Copy)]
 pub enum Banks {
     Absent,
     Count(u64),
 }
 
 // The Rust's Ok and its breaches; and Refused, for columns that hold no ledger.
-#[derive(Drop)]
+#[derive(Clone, Copy)]
 pub enum Verdict {
     Accepted,
     // The run declared one record id twice, so no question about it has one answer.

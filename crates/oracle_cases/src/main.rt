@@ -3,6 +3,8 @@
 // src/ has what the Rust answers to the same inputs, and was made by
 //     tests/differential/run sample oracle > crates/oracle_cases/stdout
 // The tables and the order of the cases are those of `sample` in tests/differential/src/oracle.rs.
+#![tactic(auto)]
+
 ghost use Rattle.std.specs.Prelude.{◌<◌, ◌≤◌};
 
 use first_entries::{StateAnswer, TornAnswer};
@@ -15,7 +17,7 @@ const RECORDS: [u32; 3] = [5, 6, 9];
 const COUNTS: [u64; 5] = [0, 0, 1, 2, 18446744073709551615];
 
 // A list of up to two numbers.
-#[derive(Drop)]
+#[derive(Clone, Copy)]
 struct Pair {
     many: usize,
     first: usize,

@@ -2,6 +2,8 @@
 // against the original Rust: numbers and lent slices in, a lent reply filled with numbers. Each function makes one call and
 // tells its answer whole: document 01's number, 0 where nothing is refused, then for each of its values whether there is one
 // and the value. A slice crosses as a pointer, then a length; an array as a pointer.
+#![tactic(auto)]
+
 ghost use Rattle.std.specs.Prelude.{◌≡◌, []};
 ghost use Rattle.model.specs.Ledger.{code_of};
 ghost use Rattle.model.specs.Answers.{len_asked, list_numbers};

@@ -3,6 +3,8 @@
 // many lines are left, or what refuses it, and the bytes. The file stdout beside src/ has the Rust's text, cut into parts by
 // tests/differential, and was made by
 //     tests/differential/run sample parts > crates/part_cases/stdout
+#![tactic(auto)]
+
 use libc::STDOUT_FILENO;
 use text_parts::Part;
 

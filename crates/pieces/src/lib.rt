@@ -2,6 +2,8 @@
 // buffer that the caller lends. A piece is written where there is room for it, and the answer is the place past it; where there
 // is none nothing changes and the place stays. So the promises compose with no word of the room, and whether a line fits is
 // asked before (`fits`). Each promise is an equation with a definition of specs/.
+#![tactic(auto)]
+
 ghost use Rattle.std.specs.Prelude.{◌≡◌, [], ◌∷◌, ◌+◌, leb};
 ghost use Rattle.text.specs.Numbers.{decimal_of};
 ghost use Rattle.pieces.specs.Pieces.{letter, cursor, after, after_all, letters};

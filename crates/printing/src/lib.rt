@@ -1,6 +1,8 @@
 // `sweep` and `judge` on standard output: one part of the text after the other, each from the line where the one before ended, up to
 // the first that is not taken. No contract can say what is written. What is told are lines of document 01's text from the first on,
 // with their bytes and whether they are all, and each part is what `text_parts` promises.
+#![tactic(auto)]
+
 ghost use Rattle.std.specs.Prelude.{◌≡◌, true, ◌≤◌, length, drop};
 ghost use Rattle.text_of_runs.specs.Printout.{sweep_lines, judge_lines};
 ghost use Rattle.text_parts.specs.Parts.{part_left, part_of};
@@ -13,7 +15,7 @@ use text_parts::Part;
 pub const ENOUGH: usize = 65537;
 
 // How many lines standard output took, how many bytes these have, and whether they are the whole text.
-#[derive(Drop)]
+#[derive(Clone, Copy)]
 pub struct Printed {
     pub lines: u64,
     pub bytes: u64,

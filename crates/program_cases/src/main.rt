@@ -2,6 +2,8 @@
 // it has), then what `sweep` prints for it; and once more with what `judge` prints. The scripts and their order are those of
 // tests/differential/src/program_scripts.rs. The file stdout beside src/ has the Rust's answers, and was made by
 //     (tests/differential/run sample sweep; tests/differential/run sample judge) > crates/program_cases/stdout
+#![tactic(auto)]
+
 ghost use Rattle.std.specs.Prelude.{◌≤◌, length};
 
 use basics::store_u8;

@@ -2,20 +2,22 @@
 // look like. A field is told by its place: it starts where the caller says and goes up to the byte that ends it, a tab or an
 // LF in a script, so that reading goes over each byte once. No function asks anything of its caller: past the text's end
 // there is no field.
+#![tactic(auto)]
+
 ghost use Rattle.std.specs.Prelude.{◌≡◌, drop};
 ghost use Rattle.text.specs.Fields.{field_to};
 ghost use Rattle.read_fields.specs.Answers.{letter_at, number_at};
 ghost use Rattle.read_fields.specs.Inner.{digits_at};
 
 // What a field says as a number, and the next place: past the byte that ends the field.
-#[derive(Drop)]
+#[derive(Clone, Copy)]
 pub enum Number {
     Value(u32, usize),
     NoNumber,
 }
 
 // A field of one byte, and the next place.
-#[derive(Drop)]
+#[derive(Clone, Copy)]
 pub enum Letter {
     One(u8, usize),
     NoLetter,

@@ -2,6 +2,8 @@
 // session.rs; specs/Records has document 01's rule over any list of operations, and specs/Columns what it says of operations in
 // columns. `ledger` finds once what does not depend on the record (`Facts`) and asks here for each. Columns of two lengths are
 // read as far as both go.
+#![tactic(auto)]
+
 ghost use Rattle.std.specs.Prelude.{◌≡◌, ◌≤◌, length};
 ghost use Rattle.model.specs.Ledger.{code_of};
 ghost use Rattle.records.specs.Records.{judged};
@@ -13,7 +15,7 @@ use session::Armed;
 
 // What every record's state is judged by: what is armed, whether the bytes that it withheld are still not on media, and one past
 // the last barrier that answered 0.
-#[derive(Drop)]
+#[derive(Clone, Copy)]
 pub struct Facts {
     pub armed: Armed,
     pub outstanding: bool,
@@ -21,21 +23,21 @@ pub struct Facts {
 }
 
 // A record's operations: the first, and one past the last.
-#[derive(Drop)]
+#[derive(Clone, Copy)]
 struct Span {
     start: usize,
     stop: usize,
 }
 
 // What a record's own operations say: whether a cell changed, and one past the last program or erase, 0 where there is none.
-#[derive(Drop)]
+#[derive(Clone, Copy)]
 struct Scanned {
     changed: bool,
     written: usize,
 }
 
 // State and torn as the columns hold them.
-#[derive(Drop)]
+#[derive(Clone, Copy)]
 pub struct Codes {
     pub state: u8,
     pub torn: u8,

@@ -1,6 +1,8 @@
 // A list of calls run through the session: start, every call in turn, and the ledger at the end. Document 01, "Demand 3": what
 // `replay` leaves is the plain run. The calls are rows of a table, as `steps` has them: a list of calls marks no range, so kinds go
 // up to 4, and no row's third number is read.
+#![tactic(auto)]
+
 ghost use Rattle.std.specs.Prelude.{◌≡◌, length};
 ghost use Rattle.session.specs.Log.{log_of, marks_of};
 ghost use Rattle.session.specs.Start.{opened, started};

@@ -1,6 +1,8 @@
 // The layer `replay` for callers in Rust or C, which tests/differential holds against a plain run of its own: numbers and lent
 // slices and arrays in, a number out. What the start was told crosses as in `session_numbers`. A slice crosses as a pointer, then a
 // length; an array as a pointer to that many elements.
+#![tactic(auto)]
+
 ghost use Rattle.std.specs.Prelude.{◌≡◌};
 ghost use Rattle.session.specs.Log.{log_of, marks_of};
 ghost use Rattle.ledger.specs.Ledger.{entered_of};

@@ -3,6 +3,8 @@
 // bytes of a program start), and a pool with the programs' bytes. Kinds are 0 a program, 1 an erase, 2 a barrier, 3 begin, 4 end,
 // 5 a range marked afterwards. Every number that can refuse a run is found here, the lowest first, so that a refused run changes
 // nothing.
+#![tactic(auto)]
+
 ghost use Rattle.std.specs.Prelude.{◌≡◌, ◌&&◌, ◌+◌, length, take, eqb, ltb};
 ghost use Rattle.script.specs.Columns.{columns};
 ghost use Rattle.rows.specs.Rows.{five_uneven, any_outside, begins_from, lengths_number, contents_number, rows_number};

@@ -1,6 +1,8 @@
 // The line of the run at a place of a sweep, as `sweep` or `judge` prints it, written into a buffer that the caller lends: what is
 // armed there, the script's run with it, its ledger, its line. All that a run is lent are locals of zeros, so it depends on nothing
 // that an earlier run left. Each promise is an equation with a definition of specs/.
+#![tactic(auto)]
+
 ghost use Rattle.std.specs.Prelude.{◌≡◌, ◌≤◌, min, length, take, []};
 ghost use Rattle.ledger.specs.Ledger.{entered_of};
 ghost use Rattle.script.specs.Columns.{columns};
@@ -22,7 +24,7 @@ use script::Head;
 use session::Armed;
 
 // The place past the line's LF; or the number that refuses it, and then nothing is written.
-#[derive(Drop)]
+#[derive(Clone, Copy)]
 pub enum RunLine {
     UpTo(usize),
     NoLine(u32),

@@ -1,6 +1,8 @@
 // A table of rows through a session, one after the other: a list of calls, or a script's lines. Five columns, a row for each call
 // (`steps` has their kinds), and a pool with the programs' bytes. A run of rows derives nothing; who wants the ledger of the session
 // that it left asks for it afterwards.
+#![tactic(auto)]
+
 ghost use Rattle.std.specs.Prelude.{◌≡◌, min, get_or};
 ghost use Rattle.session.specs.Log.{log_of, marks_of};
 ghost use Rattle.ledger.specs.Ledger.{entered_of, ledgered, ledger_call};
@@ -14,7 +16,7 @@ use session::{Counters, Told};
 use steps::Row;
 
 // The counters that the last row left, whether the rows ended at an error, and how many were run.
-#[derive(Drop)]
+#[derive(Clone, Copy)]
 pub struct Ended {
     pub counters: Counters,
     pub failed: bool,

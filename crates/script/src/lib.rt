@@ -6,6 +6,8 @@
 //
 // Reading goes over the text twice: the first time to know that no line is faulty, how many calls there are and how many
 // bytes they bring; the second time to store them. A line is read from its first byte on, with no look ahead for its end.
+#![tactic(auto)]
+
 ghost use Rattle.std.specs.Prelude.{◌≡◌, not, ◌&&◌, [], ◌∷◌, ◌≤◌, ◌<◌, length, drop, eqb, leb};
 ghost use Rattle.basics.specs.Tests.{unless, first_of};
 ghost use Rattle.text.specs.Lines.{lines_of};
@@ -31,7 +33,7 @@ pub const MOST_BYTES: usize = 32768;
 
 // What line 1 says: the device, whether a bit set without an erase is rejected (else absorbed), and whether the writer
 // carries on at an error (else it stops and returns it).
-#[derive(Drop)]
+#[derive(Clone, Copy)]
 pub struct Head {
     pub geometry: Geometry,
     pub rejected: bool,
@@ -40,14 +42,14 @@ pub struct Head {
 
 // What reading a script answers: line 1, how many calls and how many bytes; or document 01's number, and the line, which
 // is 0 where the fault is in no line.
-#[derive(Drop)]
+#[derive(Clone, Copy)]
 pub enum ReadScript {
     Read { head: Head, calls: u32, bytes: u32 },
     Refused { number: u32, line: u32 },
 }
 
 // A call as a line says it: its row of the columns, and where in the text its bytes start and how many there are.
-#[derive(Drop)]
+#[derive(Clone, Copy)]
 struct Row {
     kind: u8,
     first: u32,
@@ -58,35 +60,35 @@ struct Row {
 }
 
 // A line after the first: its call and the next place, past the line; or that the line is faulty.
-#[derive(Drop)]
+#[derive(Clone, Copy)]
 enum Line {
     Call(Row, usize),
     Faulty,
 }
 
 // The four numbers of line 1, and the next place.
-#[derive(Drop)]
+#[derive(Clone, Copy)]
 enum Units {
     Four(Geometry, usize),
     NoUnits,
 }
 
 // Line 1, and the next place.
-#[derive(Drop)]
+#[derive(Clone, Copy)]
 enum First {
     Given(Head, usize),
     NoHead,
 }
 
 // The lines after the first: how many calls and bytes, or the first faulty line.
-#[derive(Drop)]
+#[derive(Clone, Copy)]
 enum Checked {
     Lines { calls: u32, bytes: u32 },
     Fault { line: u32 },
 }
 
 // A whole script, and where its second line starts; or the number and line that refuse it.
-#[derive(Drop)]
+#[derive(Clone, Copy)]
 enum Whole {
     Good {
         head: Head,

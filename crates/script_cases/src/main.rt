@@ -5,6 +5,8 @@
 // reader answers, which was written from document 01 alone, with the code for each letter, and was made by
 //     tests/differential/run sample script > crates/script_cases/stdout
 // The texts and their order are those of `sample` in tests/differential/src/script.rs.
+#![tactic(auto)]
+
 ghost use Rattle.std.specs.Prelude.{◌<◌, ◌≤◌, length};
 
 use basics::store_u8;

@@ -2,6 +2,8 @@
 // columns in, a lent reply filled with numbers. Each function makes one call and tells its answer whole: document 01's
 // number, 0 where nothing is refused, the line, and then what line 1 says and how many calls and bytes there are, all 0
 // after a refusal. A slice crosses as a pointer, then a length; an array as a pointer.
+#![tactic(auto)]
+
 ghost use Rattle.std.specs.Prelude.{◌≡◌};
 ghost use Rattle.script.specs.Script.{script_of};
 ghost use Rattle.script.specs.Columns.{columns, count_of, read_into};

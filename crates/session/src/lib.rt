@@ -9,6 +9,8 @@
 // This crate has the types and what calls share, and every call's definition but for those of the two that write. The calls are
 // `session_calls` (start, barrier, read), `session_marks`, `session_program` and `session_erase`: each must-fail edit checks its
 // crate anew.
+#![tactic(auto)]
+
 ghost use Rattle.std.specs.Prelude.{◌≡◌};
 ghost use Rattle.basics.specs.Tests.{flag};
 ghost use Rattle.session.specs.Log.{log_of, logged};
@@ -28,14 +30,14 @@ pub const OPERATIONS: usize = 1024;
 pub const MARKS: usize = 512;
 
 // At most one injection.
-#[derive(Drop)]
+#[derive(Clone, Copy)]
 pub enum Armed {
     Nothing,
     At(Injection),
 }
 
 // What the start was told. No call changes it.
-#[derive(Drop)]
+#[derive(Clone, Copy)]
 pub struct Told {
     pub geometry: Geometry,
     pub bits: OneWayBits,
@@ -44,7 +46,7 @@ pub struct Told {
 
 // What calls change: how many operations and marks were taken, the reset that stopped the session, whether the injection has
 // fired, and the span of the media that the armed operation withheld: where it starts and how many bytes it has.
-#[derive(Drop)]
+#[derive(Clone, Copy)]
 pub struct Counters {
     pub operations: usize,
     pub marks: usize,
@@ -55,7 +57,7 @@ pub struct Counters {
 }
 
 // The reply to a call: document 01's number, 0 where nothing is refused and nothing was armed, and the counters after it.
-#[derive(Drop)]
+#[derive(Clone, Copy)]
 pub struct Called {
     pub answer: u32,
     pub counters: Counters,
@@ -63,7 +65,7 @@ pub struct Called {
 
 // One operation as the log has it: its kind (0 a program, 1 an erase, 2 a barrier), its span, the digest of the bytes handed in,
 // whether a cell changed and whether it answered 0 (each 0 or 1).
-#[derive(Drop)]
+#[derive(Clone, Copy)]
 pub struct Entry {
     pub kind: u8,
     pub offset: u32,
@@ -74,14 +76,14 @@ pub struct Entry {
 }
 
 // What a program or an erase that is not refused will do: how much of it lands, and its reply.
-#[derive(Drop)]
+#[derive(Clone, Copy)]
 pub struct Plan {
     pub landed: u32,
     pub reply: Called,
 }
 
 // What a start answers: the fresh counters, or the number that refuses.
-#[derive(Drop)]
+#[derive(Clone, Copy)]
 pub enum Started {
     Fresh(Counters),
     NotStarted(u32),

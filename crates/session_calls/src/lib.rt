@@ -1,6 +1,8 @@
 // The session's start, its barrier and its read: the calls that change no cell but for a start's fill. They follow `Session` in
 // waymaker-fault's session.rs. Each contract is one equation: the reply and every lent buffer. The definitions are `session`'s
 // (Start, Barrier, Read).
+#![tactic(auto)]
+
 ghost use Rattle.std.specs.Prelude.{◌≡◌, length};
 ghost use Rattle.session.specs.Log.{log_of, marks_of};
 ghost use Rattle.session.specs.Tests.{start_number};

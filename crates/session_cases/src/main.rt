@@ -7,6 +7,8 @@
 // document 01's examples: a barrier under power loss answers 21 with count 0 and 0 with count 1 (lines 2 and 3; 128 and 129, where
 // it acknowledges only then), and a zero-length program under power loss none answers 0, the next call 21 (lines 19 and 163); under
 // power loss at 2, the bytes 00 00 ff ff over erased cells are not torn (line 112) and 00 00 00 00 are (line 148).
+#![tactic(auto)]
+
 ghost use Rattle.std.specs.Prelude.{◌<◌};
 
 use device::OneWayBits;

@@ -3,6 +3,8 @@
 // entries of a slice, and hands a session's log on as entries; `session_entries_back` gets it back. Each contract is an equation over
 // the list of entries. What is refused answers document 01's number and changes nothing: 11 for an index outside the log, 12 for
 // columns of different lengths, 13 for too little room.
+#![tactic(auto)]
+
 ghost use Rattle.std.specs.Prelude.{◌≡◌, length, set, get_or};
 ghost use Rattle.session.specs.Log.{log_of};
 ghost use Rattle.session_entries.specs.Entries.{row_of, place_test, entry_at, moved_test, moved_rows, entries_number, to_entries};
@@ -10,7 +12,7 @@ ghost use Rattle.session_entries.specs.Entries.{row_of, place_test, entry_at, mo
 use session::Entry;
 
 // What reading an entry answers: the entry, or the number that refuses.
-#[derive(Drop)]
+#[derive(Clone, Copy)]
 pub enum EntryAnswer {
     Found(Entry),
     NotThere(u32),

@@ -1,5 +1,7 @@
 // A log of entries got back into the session's six columns: the other way of `session_entries`' `to_entries`, by the same tests, in a
 // crate of its own because its proof is long.
+#![tactic(auto)]
+
 ghost use Rattle.std.specs.Prelude.{◌≡◌};
 ghost use Rattle.session.specs.Log.{log_of};
 ghost use Rattle.session_entries.specs.Entries.{columns_number, to_columns};

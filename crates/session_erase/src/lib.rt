@@ -1,6 +1,8 @@
 // The session's erase. Follows `erase` of `Session` in waymaker-fault's session.rs. An erase that no test refuses is recorded,
 // lands as much as the injection armed on it says (all of it where nothing is armed), and what it did not reach goes into the
 // withheld copy as 0xFF. The contract is one equation: the reply, the media, the copy and every column of the log.
+#![tactic(auto)]
+
 ghost use Rattle.std.specs.Prelude.{◌≡◌, ◌+◌, ◌^◌, ◌<◌, ◌≤◌, length};
 ghost use Rattle.session.specs.Log.{log_of};
 ghost use Rattle.session.specs.Armed.{erase_lands};

@@ -3,6 +3,8 @@
 // answer as numbers, so that a comparison of the numbers is one of the layer. An answer is document 01's number, 0 where nothing
 // is refused and nothing was armed; the counters are put back after the call. A slice crosses as a pointer, then a length. The
 // marks are `session_marks_exported`.
+#![tactic(auto)]
+
 ghost use Rattle.std.specs.Prelude.{◌≡◌, length};
 ghost use Rattle.session.specs.Log.{log_of, marks_of};
 ghost use Rattle.session.specs.Start.{started};

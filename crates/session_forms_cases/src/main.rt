@@ -10,6 +10,8 @@
 // Then lines of a log that starts with that erase, laid out in columns that were all 7: the answer and row 0. In a session's columns
 // (0, and row 1, which is empty), in columns of which one is longer (12) and in columns that are too short (13), both unchanged.
 // The Rust has no such forms, so the file `stdout` replays nothing: each line follows from document 01 and the sentences above.
+#![tactic(auto)]
+
 use device::OneWayBits;
 use inject::{Injection, Interruption, Progress};
 use landing::Stop;

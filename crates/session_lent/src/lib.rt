@@ -2,6 +2,8 @@
 // by-value barrier does the work (`session_calls`); this takes the counters out of the reference, calls it, and puts what comes
 // back in their place. It promises what the by-value barrier promises, by the same definition, with the counters that it leaves
 // where the other returns them.
+#![tactic(auto)]
+
 ghost use Rattle.std.specs.Prelude.{◌≡◌};
 ghost use Rattle.session.specs.Log.{log_of};
 ghost use Rattle.session.specs.Barrier.{ordered, barriered};

@@ -1,6 +1,8 @@
 // The session's record marks. Follows `begin_record`, `end_record` and `mark_operations` of `Session` in waymaker-fault's
 // session.rs. A mark is an id or "end" with an operation count, one row of three lent columns. A stopped session takes marks too:
 // 12, 13 and 28 are all that refuses. The definitions are `session`'s (Marks, Log, Tests).
+#![tactic(auto)]
+
 ghost use Rattle.std.specs.Prelude.{◌≡◌, ◌+◌, ◌≤◌};
 ghost use Rattle.session.specs.Log.{marks_of, mark_of, marked};
 ghost use Rattle.session.specs.Tests.{marks_uneven, marks_length_test, marks_number};

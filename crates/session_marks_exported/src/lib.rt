@@ -1,4 +1,6 @@
 // The session's marks for callers in Rust or C: numbers and lent slices in, a number out, as in `session_exported`.
+#![tactic(auto)]
+
 ghost use Rattle.std.specs.Prelude.{◌≡◌};
 ghost use Rattle.session.specs.Log.{marks_of};
 ghost use Rattle.session.specs.Marks.{begun, ended, range_marked};

@@ -3,6 +3,8 @@
 // and its operation, kind of progress, byte count and interruption. The counters cross as six (`state`): operations, marks, the
 // stop's number, whether the injection fired, and the place and length of what was withheld. A code without a meaning has a
 // decided one, and a number that is not there is 0 (specs/Numbers.antt).
+#![tactic(auto)]
+
 ghost use Rattle.std.specs.Prelude.{◌≡◌, get_or};
 ghost use Rattle.session_numbers.specs.Numbers.{rule_of, progress_of, interruption_of, armed_of, told_of, stop_of, yes, low, counters_of, counters_in};
 

@@ -2,6 +2,8 @@
 // recorded with the digest of all its bytes, as many leading bytes land as the injection armed on it says (all where nothing is
 // armed), and for the others the withheld copy holds what the write would have left: the cell AND the byte. The contract is one
 // equation: the reply, the media, the copy and every column of the log.
+#![tactic(auto)]
+
 ghost use Rattle.std.specs.Prelude.{◌≡◌, ◌+◌, ◌^◌, ◌<◌, ◌≤◌, length};
 ghost use Rattle.session.specs.Log.{log_of};
 ghost use Rattle.session.specs.Armed.{program_lands};

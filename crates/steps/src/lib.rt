@@ -1,6 +1,8 @@
 // One row of a list of calls or of a script, of any kind: 0 a program, 1 an erase, 2 a barrier, 3 begin, 4 end, 5 a range marked
 // afterwards. The bytes of a program are a part of a lent pool. The log and the marks are arrays of a session's limits, so that no
 // length of them is left to test; the session's own calls take slices of any length.
+#![tactic(auto)]
+
 ghost use Rattle.std.specs.Prelude.{◌≡◌, ◌+◌, min};
 ghost use Rattle.session.specs.Log.{log_of, marks_of};
 ghost use Rattle.steps.specs.Step.{session_of, answered_of, task_from, step_answered};
@@ -9,7 +11,7 @@ use session::{Called, Counters, Told};
 
 // A row: its kind, three numbers, and where the bytes of a program start in the pool. A program has offset and length, an erase the
 // same, begin an id, a range an id and two operation counts.
-#[derive(Drop)]
+#[derive(Clone, Copy)]
 pub struct Row {
     pub kind: u8,
     pub first: u32,

@@ -2,13 +2,15 @@
 // Follows waymaker-flash's storage.rs. Where the Rust keeps a Geometry's fields private, so that only `new` can make one,
 // here anybody can: each function checks the four units first, and a Geometry that describes no device gets its number
 // 1 to 3, whatever else is asked. Every contract holds for every u32.
+#![tactic(auto)]
+
 ghost use Rattle.std.specs.Prelude.{◌≡◌, true, ◌%◌, eqb};
 ghost use Rattle.storage.specs.Geometry.{one_bit, geometry_test, geometry_of};
 ghost use Rattle.storage.specs.Span.{span_test, read_test, program_test, erase_test};
 ghost use Rattle.storage.specs.Answers.{number_of, number_of_validated, answered, described, blocks_of};
 
 // The four units that a storage device is described by.
-#[derive(Drop)]
+#[derive(Clone, Copy)]
 pub struct Geometry {
     // Total addressable bytes.
     pub capacity: u32,
@@ -21,7 +23,7 @@ pub struct Geometry {
 }
 
 // A geometry that describes no device, or a span that a geometry forbids.
-#[derive(Drop)]
+#[derive(Clone, Copy)]
 pub enum GeometryError {
     // A capacity or a unit was zero.
     ZeroUnit,
@@ -38,21 +40,21 @@ pub enum GeometryError {
 }
 
 // What `Geometry::new` answers.
-#[derive(Drop)]
+#[derive(Clone, Copy)]
 pub enum NewGeometry {
     Described(Geometry),
     NotDescribed(GeometryError),
 }
 
 // What a check of a geometry or of a span answers.
-#[derive(Drop)]
+#[derive(Clone, Copy)]
 pub enum Validated {
     Legal,
     Illegal(GeometryError),
 }
 
 // What `erase_blocks` answers.
-#[derive(Drop)]
+#[derive(Clone, Copy)]
 pub enum EraseBlocks {
     Blocks(u32),
     NoBlocks(GeometryError),

@@ -2,6 +2,8 @@
 // file stdout beside src/ has what the Rust answers to the same inputs, and was made by
 //     tests/differential/run sample storage > crates/storage_cases/stdout
 // The tables and the order of the cases are those of `sample` in tests/differential/src/storage.rs.
+#![tactic(auto)]
+
 ghost use Rattle.std.specs.Prelude.{◌<◌};
 
 use libc::STDOUT_FILENO;

@@ -2,6 +2,8 @@
 // slices in, a number out. Each function takes the layer's values from numbers, makes one call, and gives the answer as
 // numbers, so that a comparison of the numbers is one of the layer: a geometry is its four units, an answer is document 01's
 // number, 0 where nothing is refused. A slice crosses as a pointer, then a length.
+#![tactic(auto)]
+
 ghost use Rattle.std.specs.Prelude.{◌≡◌};
 ghost use Rattle.storage.specs.Geometry.{geometry_test, geometry_of};
 ghost use Rattle.storage.specs.Span.{read_test, program_test, erase_test};

@@ -1,5 +1,7 @@
 // A script on standard input; on standard output every run of its sweep, or what refuses it (document 01, "Scripts and the two
 // programs"). A script that cannot be read to its end is not run.
+#![tactic(auto)]
+
 use libc::STDIN_FILENO;
 use printing::ENOUGH;
 

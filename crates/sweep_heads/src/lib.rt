@@ -1,6 +1,8 @@
 // What stands before the entries in a run's line of `sweep` (document 01, "Scripts and the two programs"): its place, its
 // injection's kind, index and progress, the session's stop and the operations recorded. It is written into a buffer that the
 // caller lends, and measured. Each promise is an equation with a definition of specs/.
+#![tactic(auto)]
+
 ghost use Rattle.std.specs.Prelude.{◌≡◌};
 ghost use mathlib.Core.List.{[], ◌∷◌, flatten};
 ghost use Rattle.pieces.specs.Pieces.{letter, cursor, after_all, tabbed};

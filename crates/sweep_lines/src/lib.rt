@@ -3,6 +3,8 @@
 // columns that hold none are refused with 12. The line is measured before it is written, so that one which does not fit from
 // the place where it should start is refused with 13. A refusal changes nothing. The promise is an equation with a definition
 // of specs/.
+#![tactic(auto)]
+
 ghost use Rattle.std.specs.Prelude.{◌≡◌, ◌+◌, length, leb};
 ghost use mathlib.Core.List.{flatten};
 ghost use Rattle.model.specs.Columns.{state_of, entry_of, ledger_of};

@@ -3,3 +3,4 @@
 // proofs/Examples.antt computes document 01's worked example. This crate holds definitions and theorems only: the code is in
 // `armed_runs` (what is armed in each run), `harness` (a sweep opened), `harness_runs` (its runs), `held` (a run held to the
 // fault-free one), and `lines` and `sweep_lines` (the text).
+#![tactic(auto)]

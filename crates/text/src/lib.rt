@@ -1,6 +1,8 @@
 // A text: its lines, its fields, and what a field says as a number or as hexadecimal pairs, after document 01, "Scripts and
 // the two programs". The definitions stand here, and numbers are printed here: in decimal, at a place of a lent buffer.
 // `read_fields` and `hex_pairs` read. No function asks anything of its caller.
+#![tactic(auto)]
+
 ghost use Rattle.std.specs.Prelude.{◌≡◌, length};
 ghost use Rattle.text.specs.Numbers.{decimal_of};
 ghost use Rattle.text.specs.Printing.{Places, Print, printed_at};
@@ -11,7 +13,7 @@ pub const TAB: u8 = 9;
 pub const LF: u8 = 10;
 
 // The place past what was printed.
-#[derive(Drop)]
+#[derive(Clone, Copy)]
 pub enum Printed {
     Next(usize),
     NoRoom,

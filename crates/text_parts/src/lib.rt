@@ -1,6 +1,8 @@
 // What `sweep` and `judge` print, from a script's text alone: as many lines of it as a lent buffer has room for, from any line on.
 // A part's bytes and the reply are one equation with document 01's text, for every input; parts asked for one after the other
 // are the whole text (specs/Parts). All that a sweep needs is in locals.
+#![tactic(auto)]
+
 ghost use Rattle.std.specs.Prelude.{◌≡◌, List, ℕ, ◌-◌, ◌≤◌, min, length, take, drop};
 ghost use Rattle.script.specs.Columns.{columns};
 ghost use Rattle.harness.specs.Opening.{open_call};
@@ -17,14 +19,14 @@ use script::{Head, ReadScript};
 
 // What a part holds: how many lines, how many bytes they are, and how many lines come after them; or the number that refuses a
 // buffer without room for the next line, and then nothing is written.
-#[derive(Drop)]
+#[derive(Clone, Copy)]
 pub enum Part {
     Lines(u64, usize, u64),
     NoRoom(u32),
 }
 
 // How far the lines of runs were put: the first run that was not, and the place past the last line.
-#[derive(Drop)]
+#[derive(Clone, Copy)]
 struct Filled {
     place: u64,
     at: usize,
