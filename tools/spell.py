@@ -24,7 +24,7 @@ DASHED = ["left_by", "read_number", "cut_by", "one_bit", "columns_of", "listed_b
 
 def snake(name):
     name = re.sub(r"\bgetD\b", "get_or", name)
-    return re.sub(r"(?<=[a-z0-9'])([A-Z])", lambda m: "_" + m.group(1).lower(), name)
+    return re.sub(r"(?<=[A-Za-z0-9'])([A-Z])", lambda m: "_" + m.group(1).lower(), name)
 
 
 def files(*patterns):

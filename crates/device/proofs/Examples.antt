@@ -3,7 +3,7 @@ use mathlib.Core.Path.{◌≡◌, refl}
 use mathlib.Core.Bool.{true, false}
 use mathlib.Core.List.{[], ◌∷◌, zip_with}
 use Rattle.basics.specs.Parts.{part, overlaid, on_part}
-use Rattle.device.specs.Media.{anded, any_pair, any_changed, programmed, erased, would_set_aBit, postimage, differs_from, erase_would_change}
+use Rattle.device.specs.Media.{anded, any_pair, any_changed, programmed, erased, would_set_a_bit, postimage, differs_from, erase_would_change}
 
 -- 0xf0 over 0x3c leaves 0x30; past the end nothing lands
 pub programs :
@@ -16,10 +16,10 @@ unfolding programmed erased on_part overlaid part anded zip_with any_pair
 programs = (refl, refl, refl, refl, refl)
 
 pub questions :
-    (would_set_aBit (0x30 ∷ []) 0 (0x40 ∷ []) ≡ true)
+    (would_set_a_bit (0x30 ∷ []) 0 (0x40 ∷ []) ≡ true)
     × (postimage (0x3c ∷ []) 0 (0xf0 ∷ []) ≡ 0x30 ∷ [])
     × (differs_from (0 ∷ []) 0 (0xf0 ∷ []) ≡ true)
     × (differs_from (0 ∷ []) 1 (0xf0 ∷ []) ≡ true)
     × (erase_would_change (255 ∷ 255 ∷ []) 0 2 ≡ false)
-unfolding would_set_aBit postimage differs_from erase_would_change on_part part anded zip_with any_pair
+unfolding would_set_a_bit postimage differs_from erase_would_change on_part part anded zip_with any_pair
 questions = (refl, refl, refl, refl, refl)

@@ -56,12 +56,12 @@ applied before after = record { media = after; changed = any_changed before afte
 
 -- "a byte with a 1 where its cell has 0": the AND with its cell takes a bit from it
 -- (`sets-bits` in proofs/Bits.antt: exactly if at some place the byte has a 1 and its cell a 0)
-abbrev pub sets_aBit : (cell byte : ℕ) → Bool
-sets_aBit cell byte = unequal (bit_and byte cell) byte
+abbrev pub sets_a_bit : (cell byte : ℕ) → Bool
+sets_a_bit cell byte = unequal (bit_and byte cell) byte
 
 -- a byte of src has a 1 where its cell has 0; none does where the part is not all there
-unfoldable pub would_set_aBit : (media : List ℕ) (offset : ℕ) (src : List ℕ) → Bool
-would_set_aBit media offset src = within media offset (length src) && any_pair sets_aBit (part media offset (length src)) src
+unfoldable pub would_set_a_bit : (media : List ℕ) (offset : ℕ) (src : List ℕ) → Bool
+would_set_a_bit media offset src = within media offset (length src) && any_pair sets_a_bit (part media offset (length src)) src
 
 -- "what the write would have left", cell by cell; no cells where the part is not all there
 unfoldable pub postimage : (media : List ℕ) (offset : ℕ) (src : List ℕ) → List ℕ

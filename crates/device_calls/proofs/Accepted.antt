@@ -16,7 +16,7 @@ use Rattle.storage.specs.Geometry.{geometry_test}
 use Rattle.storage.proofs.Nesting.{Legal, legal}
 use Rattle.storage.specs.Span.{span_test, erase_test}
 use Rattle.device.specs.declared.OneWayBits.{OneWayBits}
-use Rattle.device.specs.Media.{would_set_aBit}
+use Rattle.device.specs.Media.{would_set_a_bit}
 use Rattle.device.specs.Answers.{rejects}
 use Rattle.device_calls.specs.Calls.{media_test, buffer_test, read_refusal, write_refusal, erase_refusal, program_refusal}
 
@@ -58,9 +58,9 @@ erase-known g media offset n e =
 
 -- and a program that the bit rule lets pass
 pub program-known : (g : Geometry) (rule : OneWayBits) (media : List ℕ) (offset : ℕ) (src : List ℕ) → program_refusal g rule media offset src ≡ 0
-    → Taken g g.program_size (length media) offset (length src) × ((rejects rule && would_set_aBit media offset src) ≡ false)
+    → Taken g g.program_size (length media) offset (length src) × ((rejects rule && would_set_a_bit media offset src) ≡ false)
 unfolding program_refusal
 program-known g rule media offset src e =
-    let one = first_of-zero (write_refusal g (length media) offset (length src)) (refuse_if (rejects rule && would_set_aBit media offset src) 20 ∷ []) e in
-    let two = first_of-zero (refuse_if (rejects rule && would_set_aBit media offset src) 20) [] one.1 in
-    (write_known g (length media) offset (length src) one.0, refuse-zero (rejects rule && would_set_aBit media offset src) 19 two.0)
+    let one = first_of-zero (write_refusal g (length media) offset (length src)) (refuse_if (rejects rule && would_set_a_bit media offset src) 20 ∷ []) e in
+    let two = first_of-zero (refuse_if (rejects rule && would_set_a_bit media offset src) 20) [] one.1 in
+    (write_known g (length media) offset (length src) one.0, refuse-zero (rejects rule && would_set_a_bit media offset src) 19 two.0)

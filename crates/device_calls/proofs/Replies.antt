@@ -34,7 +34,7 @@ use Rattle.device_calls.specs.declared.FaultError.{FaultError}
 use Rattle.device_calls.specs.declared.FaultError.TheVariants as fault
 use Rattle.device_calls.specs.declared.Reply.{Reply}
 use Rattle.device_calls.specs.declared.Reply.TheVariants.{Accepted, Refused}
-use Rattle.device.specs.Media.{would_set_aBit, programmed, erased}
+use Rattle.device.specs.Media.{would_set_a_bit, programmed, erased}
 use Rattle.device_calls.specs.Answers.{number_of_reply, replied}
 use Rattle.device.specs.Answers.{rejects}
 use Rattle.device_calls.specs.Calls.{media_test, buffer_test, read_refusal, write_refusal, erase_refusal, program_refusal, Called, called, read_call, program_call, erase_call}
@@ -160,15 +160,15 @@ module _ (g : Geometry) (rule : OneWayBits) (media : List ℕ) (offset : ℕ) (s
   program-refused f e =
       let w = write_refusal g (length media) offset (length src) in
       let q : replied w ≡ Refused f = sym told ∙ e in
-      let first : first_of (w ∷ refuse_if (rejects rule && would_set_aBit media offset src) 20 ∷ []) ≡ w = first_of-stop w _ (refused-not-zero w f q) in
+      let first : first_of (w ∷ refuse_if (rejects rule && would_set_a_bit media offset src) 20 ∷ []) ≡ w = first_of-stop w _ (refused-not-zero w f q) in
       rw first (refused-call w media (programmed media offset src) f q)
 
-  pub program-rejected : checked ≡ Accepted → (rejects rule && would_set_aBit media offset src) ≡ true
+  pub program-rejected : checked ≡ Accepted → (rejects rule && would_set_a_bit media offset src) ≡ true
       → ◌≡◌ {A = Called} (record { reply = Refused fault.BitSetWithoutErase; content = media }) (program_call g rule media offset src)
   unfolding program_call program_refusal first_of refuse_if
   program-rejected e b = rw (accepted-zero (write_refusal g (length media) offset (length src)) (sym told ∙ e), b)
 
-  pub program-accepted : checked ≡ Accepted → (rejects rule && would_set_aBit media offset src) ≡ false → (after : List ℕ) → after ≡ programmed media offset src
+  pub program-accepted : checked ≡ Accepted → (rejects rule && would_set_a_bit media offset src) ≡ false → (after : List ℕ) → after ≡ programmed media offset src
       → ◌≡◌ {A = Called} (record { reply = Accepted; content = after }) (program_call g rule media offset src)
   unfolding program_call program_refusal first_of refuse_if
   program-accepted e b after is = rw (accepted-zero (write_refusal g (length media) offset (length src)) (sym told ∙ e), b, is)

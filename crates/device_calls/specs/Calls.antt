@@ -8,7 +8,7 @@ use Rattle.storage.specs.Geometry.{geometry_test}
 use Rattle.storage.specs.Span.{read_test, program_test, erase_test}
 use Rattle.device.specs.declared.OneWayBits.{OneWayBits}
 use Rattle.device_calls.specs.declared.Reply.{Reply}
-use Rattle.device.specs.Media.{programmed, erased, would_set_aBit}
+use Rattle.device.specs.Media.{programmed, erased, would_set_a_bit}
 use Rattle.device.specs.Answers.{rejects}
 use Rattle.device_calls.specs.Answers.{replied}
 
@@ -41,7 +41,7 @@ barrier_refusal g media = first_of (geometry_test g ∷ media_test g media ∷ [
 -- "Under rule `Rejected`, a byte with a 1 where its cell has 0 refuses the call with 20": after all the others
 unfoldable pub program_refusal : Geometry → OneWayBits → (media : List ℕ) (offset : ℕ) (src : List ℕ) → ℕ
 program_refusal g rule media offset src =
-    first_of (write_refusal g (length media) offset (length src) ∷ refuse_if (rejects rule && would_set_aBit media offset src) 20 ∷ [])
+    first_of (write_refusal g (length media) offset (length src) ∷ refuse_if (rejects rule && would_set_a_bit media offset src) 20 ∷ [])
 
 -- ---- the calls
 

@@ -8,7 +8,7 @@
 ghost use Rattle.std.specs.Prelude.{◌≡◌, length};
 ghost use Rattle.basics.specs.Tests.{flag};
 ghost use Rattle.storage.specs.Geometry.{geometry_of};
-ghost use Rattle.device.specs.Media.{new_media, any_changed, programmed, erased, would_set_aBit, postimage, differs_from, erase_would_change};
+ghost use Rattle.device.specs.Media.{new_media, any_changed, programmed, erased, would_set_a_bit, postimage, differs_from, erase_would_change};
 ghost use Rattle.device.specs.Answers.{number_of_postimage, copied};
 ghost use Rattle.device_calls.specs.Calls.{read_refusal, program_refusal, erase_refusal, barrier_refusal, read_call, program_call, erase_call};
 ghost use Rattle.device_exported.specs.Device.{rule_of, count_over};
@@ -77,7 +77,7 @@ pub extern "C" fn device_apply_erase(media: &mut [u8], offset: u32, len: u32) ->
 // `would_set_a_bit`: whether a byte has a 1 where its cell has 0.
 #[unsafe(no_mangle)]
 pub extern "C" fn device_would_set_a_bit(media: &[u8], offset: u32, src: &[u8]) -> u32
-    ensures { result ≡ flag (would_set_aBit media.now offset src.now) }
+    ensures { result ≡ flag (would_set_a_bit media.now offset src.now) }
 {
     let sets = device_questions::would_set_a_bit(media, offset, src);
     flag_of(sets)

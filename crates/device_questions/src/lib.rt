@@ -4,7 +4,7 @@
 #![tactic(auto)]
 
 ghost use Rattle.std.specs.Prelude.{◌≡◌, length};
-ghost use Rattle.device.specs.Media.{any_pair, unequal, sets_aBit, would_set_aBit, differs_from};
+ghost use Rattle.device.specs.Media.{any_pair, unequal, sets_a_bit, would_set_a_bit, differs_from};
 
 // How many cells a question looks at before it may stop, as in `device`: a loop without a way out is compiled to vectors.
 const BLOCK: usize = 128;
@@ -12,7 +12,7 @@ const BLOCK: usize = 128;
 // Whether some byte has a 1 where its cell has 0. Looks at every byte.
 fn any_sets(cells: &[u8], src: &[u8]) -> bool
     requires { length cells.now ≡ length src.now }
-    ensures { result ≡ any_pair sets_aBit cells.now src.now }
+    ensures { result ≡ any_pair sets_a_bit cells.now src.now }
 {
     let mut found = false;
     let mut i = 0;
@@ -29,7 +29,7 @@ fn any_sets(cells: &[u8], src: &[u8]) -> bool
 // The same, block by block.
 fn sets_a_bit(cells: &[u8], src: &[u8]) -> bool
     requires { length cells.now ≡ length src.now }
-    ensures { result ≡ any_pair sets_aBit cells.now src.now }
+    ensures { result ≡ any_pair sets_a_bit cells.now src.now }
 {
     let mut i = 0;
     while BLOCK <= src.len() - i {
@@ -45,7 +45,7 @@ fn sets_a_bit(cells: &[u8], src: &[u8]) -> bool
 // Whether programming `src` at `offset` would ask for a bit that only an erase can restore. False where the range is not
 // in the media.
 pub fn would_set_a_bit(media: &[u8], offset: u32, src: &[u8]) -> bool
-    ensures { result ≡ would_set_aBit media.now offset src.now }
+    ensures { result ≡ would_set_a_bit media.now offset src.now }
 {
     let start = offset as usize;
     let wanted_end = start + src.len();

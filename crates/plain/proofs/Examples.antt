@@ -11,7 +11,7 @@ use Rattle.basics.specs.Parts.{part}
 use Rattle.storage.specs.Geometry.{geometry_of, geometry_test}
 use Rattle.storage.specs.Span.{span_test}
 use Rattle.device.specs.declared.OneWayBits.TheVariants.{Absorbed}
-use Rattle.device.specs.Media.{new_media, anded, any_pair, would_set_aBit}
+use Rattle.device.specs.Media.{new_media, anded, any_pair, would_set_a_bit}
 use Rattle.inject.specs.declared.Progress.{Progress}
 use Rattle.inject.specs.declared.Progress.TheVariants.{None, Bytes, Whole}
 use Rattle.inject.specs.declared.Interruption.{Interruption}
@@ -111,7 +111,7 @@ pub record Examples : Type 0 where
   pub edges : Edges
 
 pub examples : Examples
-unfolding ones zip_with unless refuse_if first_of part geometry_test span_test anded any_pair would_set_aBit rounded_up picked operation_test mark_test span_number bit_test any record_at records_to behind judged entry_by ledger_by act_test refusal mark_refusal wholly landed_by completed_by ending_by as_cut after taken_by step run plain orders changed withheld ledger in_order any_acknowledged last_acknowledged
+unfolding ones zip_with unless refuse_if first_of part geometry_test span_test anded any_pair would_set_a_bit rounded_up picked operation_test mark_test span_number bit_test any record_at records_to behind judged entry_by ledger_by act_test refusal mark_refusal wholly landed_by completed_by ending_by as_cut after taken_by step run plain orders changed withheld ledger in_order any_acknowledged last_acknowledged
 examples = record {
   sweep = record {
     run0 = record { stopped = refl; counted = refl; listed = refl };

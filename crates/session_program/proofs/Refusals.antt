@@ -13,7 +13,7 @@ use Rattle.storage.specs.Span.{program_test}
 use Rattle.storage.proofs.Nesting.{Legal, legal}
 use Rattle.device.specs.declared.OneWayBits.{OneWayBits}
 use Rattle.device.specs.declared.OneWayBits.TheVariants.{Absorbed, Rejected}
-use Rattle.device.specs.Media.{would_set_aBit}
+use Rattle.device.specs.Media.{would_set_a_bit}
 use Rattle.landing.specs.Ending.{stop_number}
 use Rattle.session.specs.declared.Told.{Told}
 use Rattle.session.specs.declared.Counters.{Counters}
@@ -44,7 +44,7 @@ unfolding bit_test refuse_if
 bit-absorbed bits media offset bytes e = rw e
 
 pub bit-rejected : (bits : OneWayBits) (media : List ℕ) (offset : ℕ) (bytes : List ℕ) (b : Bool) (r : ℕ) → bits ≡ Rejected
-    → b ≡ would_set_aBit media offset bytes → refuse_if b 20 ≡ r → r ≡ bit_test bits media offset bytes
+    → b ≡ would_set_a_bit media offset bytes → refuse_if b 20 ≡ r → r ≡ bit_test bits media offset bytes
 unfolding bit_test
 bit-rejected bits media offset bytes b r e q f = rw (e, ← q) (sym f)
 

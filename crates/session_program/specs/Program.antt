@@ -5,7 +5,7 @@ use Rattle.basics.specs.Parts.{overlaid}
 use Rattle.storage.specs.Geometry.{geometry_test}
 use Rattle.storage.specs.Span.{program_test}
 use Rattle.device.specs.declared.OneWayBits.{OneWayBits}
-use Rattle.device.specs.Media.{programmed, postimage, would_set_aBit, any_changed}
+use Rattle.device.specs.Media.{programmed, postimage, would_set_a_bit, any_changed}
 use Rattle.device.specs.Answers.{rejects}
 use Rattle.landing.specs.Ending.{stop_number}
 use Rattle.digest.specs.Fnv.{digest_of}
@@ -27,7 +27,7 @@ span_number t offset bytes =
 
 -- "Under rule `Rejected`, a byte with a 1 where its cell has 0 refuses the call with 20"
 unfoldable pub bit_test : OneWayBits → (media : List ℕ) (offset : ℕ) (bytes : List ℕ) → ℕ
-bit_test bits media offset bytes = refuse_if (rejects bits && would_set_aBit media offset bytes) 20
+bit_test bits media offset bytes = refuse_if (rejects bits && would_set_a_bit media offset bytes) 20
 
 -- "A session call first tests the lengths lent to it (7, 12, 13), then stopped, then geometry, then 20, then 27."; `copy` is the
 -- copy's length and `log` the number of the log's columns

@@ -2,7 +2,7 @@
 use mathlib.Core.Path.{◌≡◌, sym, ap, ◌∙◌}
 use mathlib.Core.Bool.{true, false, ◌&&◌}
 use mathlib.Core.Logic.{⊎_elim}
-use Rattle.device.specs.Media.{Applied, would_set_aBit}
+use Rattle.device.specs.Media.{Applied, would_set_a_bit}
 use Rattle.device.specs.Answers.{rejects}
 use Rattle.device_calls.proofs.Replies.{program-refused, program-rejected, program-accepted}
 use borrow.Author.Rules.{rules}
@@ -36,8 +36,8 @@ returns-2 : tie.Need-returns-2
 returns-2 c =
     let at_told = c.before.before.before.before.before in
     let start = at_told.before.before.before.before.before.args in
-    let w : would_set_aBit start.media.now start.offset start.src.now ≡ true = sym c.before.would-set-a-bit.ensures ∙ c.if1.true in
-    let both : (rejects start.rule && would_set_aBit start.media.now start.offset start.src.now) ≡ true = rw (c.before.before.before.enum-told2.given.1, w) in
+    let w : would_set_a_bit start.media.now start.offset start.src.now ≡ true = sym c.before.would-set-a-bit.ensures ∙ c.if1.true in
+    let both : (rejects start.rule && would_set_a_bit start.media.now start.offset start.src.now) ≡ true = rw (c.before.before.before.enum-told2.given.1, w) in
     program-rejected start.geometry start.rule start.media.now start.offset start.src.now _ at_told.before.before.check-program.ensures at_told.enum_told.given.1 both
 
 enum-told-3 : tie.Need-enum-told-3
@@ -53,7 +53,7 @@ returns-3 : tie.Need-returns-3
 returns-3 c =
     let at_told = c.before.before.before.before.before in
     let start = at_told.before.before.before.before.before.args in
-    let neither : (rejects start.rule && would_set_aBit start.media.now start.offset start.src.now) ≡ false =
+    let neither : (rejects start.rule && would_set_a_bit start.media.now start.offset start.src.now) ≡ false =
     ⊎_elim (λ m. rw m.1.given.1 (sym m.3.ensures ∙ m.4.left)) (λ m. rw m.1.given.1) c.before.before.before.before.match2.branch in
     program-accepted start.geometry start.rule start.media.now start.offset start.src.now _ at_told.before.before.check-program.ensures at_told.enum_told.given.1 neither _
     (ap (λ (a : Applied). a.media) c.before.before.apply-program.ensures)

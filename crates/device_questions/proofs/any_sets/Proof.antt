@@ -7,13 +7,13 @@ use native.Mathlib.Omega.{arith}
 use lib.ListN.{length, take}
 use borrow.Author.Rules.{rules}
 use borrow.Author.Tests.{eq-eqb, ne_eqb}
-use Rattle.device.specs.Media.{any_pair, sets_aBit}
+use Rattle.device.specs.Media.{any_pair, sets_a_bit}
 use Rattle.device.proofs.Pairs.{any-yes, any-no, any-all}
 use Rattle.device_questions.proofs.any_sets.Statement.{statement}
 use Rattle.device_questions.proofs.any_sets.Tie as tie
 
 abbrev invariant-loop : tie.invariant-loop
-invariant-loop cells src found₀ i₀ found i = (i ≤ length src) × (found ≡ any_pair sets_aBit (take i cells) (take i src))
+invariant-loop cells src found₀ i₀ found i = (i ≤ length src) × (found ≡ any_pair sets_a_bit (take i cells) (take i src))
 
 abbrev decreases-loop : tie.decreases-loop
 decreases-loop cells src found₀ i₀ found i = length src - i
@@ -44,8 +44,8 @@ loop-again c =
     let k : i < length ys = omega arith in (
       omega arith,
       ⊎_elim
-          (λ w. w.1 ∙ sym (any-yes sets_aBit xs ys i h k (ap not (ne_eqb _ _ w.0.taken))))
-          (λ w. w.1 ∙ at-loop.loop.invariant.1 ∙ sym (any-no sets_aBit xs ys i h k (ap not (eq-eqb _ _ w.0.left))))
+          (λ w. w.1 ∙ sym (any-yes sets_a_bit xs ys i h k (ap not (ne_eqb _ _ w.0.taken))))
+          (λ w. w.1 ∙ at-loop.loop.invariant.1 ∙ sym (any-no sets_a_bit xs ys i h k (ap not (eq-eqb _ _ w.0.left))))
           c.if1.branch,
     )
 
@@ -55,7 +55,7 @@ returns c =
     let xs = at-loop.before.args.cells.now in
     let ys = at-loop.before.args.src.now in
     let i = at-loop.loop.i in
-    at-loop.loop.invariant.1 ∙ any-all sets_aBit xs ys i (omega arith) (omega arith)
+    at-loop.loop.invariant.1 ∙ any-all sets_a_bit xs ys i (omega arith) (omega arith)
 
 pub any-sets-spec : {M : Type 1} → statement M
 any-sets-spec =

@@ -4,13 +4,13 @@ use mathlib.Core.Path.{◌≡◌, refl, sym, ap, ◌∙◌}
 use Prim.Native.Nat.{ℕ, ◌+◌, ◌-◌, ◌≤◌}
 use lib.ListN.{length, drop}
 use borrow.Author.Rules.{rules}
-use Rattle.device.specs.Media.{any_pair, sets_aBit}
+use Rattle.device.specs.Media.{any_pair, sets_a_bit}
 use Rattle.device.proofs.Pairs.{block-lengths, found, passed, pair-block, pair-rest}
 use Rattle.device_questions.proofs.sets_a_bit.Statement.{statement}
 use Rattle.device_questions.proofs.sets_a_bit.Tie as tie
 
 abbrev invariant-loop : tie.invariant-loop
-invariant-loop cells src i₀ i = (i ≤ length src) × (any_pair sets_aBit cells src ≡ any_pair sets_aBit (drop i cells) (drop i src))
+invariant-loop cells src i₀ i = (i ≤ length src) × (any_pair sets_a_bit cells src ≡ any_pair sets_a_bit (drop i cells) (drop i src))
 
 abbrev decreases-loop : tie.decreases-loop
 decreases-loop cells src i₀ i = length src - i
@@ -53,7 +53,7 @@ returns c =
     let at-loop = c.before.before.before.before.before in
     let start = at-loop.before.before.before in
     sym (at-loop.loop.invariant.1
-    ∙ found _ _ _ (pair-block sets_aBit start.args.cells.now start.args.src.now at-loop.loop.i 128 _ c.before.any-sets.ensures) c.if1.true)
+    ∙ found _ _ _ (pair-block sets_a_bit start.args.cells.now start.args.src.now at-loop.loop.i 128 _ c.before.any-sets.ensures) c.if1.true)
 
 loop-less : tie.Need-loop-smaller invariant-loop decreases-loop
 loop-less c = search rules
@@ -64,7 +64,7 @@ loop-again c =
     let start = at-loop.before.before.before in (
       search rules,
       at-loop.loop.invariant.1
-          ∙ passed _ _ _ (pair-block sets_aBit start.args.cells.now start.args.src.now at-loop.loop.i 128 _ c.before.any-sets.ensures) c.if1.false,
+          ∙ passed _ _ _ (pair-block sets_a_bit start.args.cells.now start.args.src.now at-loop.loop.i 128 _ c.before.any-sets.ensures) c.if1.false,
     )
 
 sub-any-sets-3 : tie.Need-overflow-sub-any-sets-3 invariant-loop decreases-loop
@@ -96,7 +96,7 @@ returns-2 : tie.Need-returns-2 invariant-loop decreases-loop
 returns-2 c =
     let at-loop = c.before.before.before.before in
     let start = at-loop.before.before.before in
-    pair-rest sets_aBit start.args.cells.now start.args.src.now at-loop.loop.i _ c.any-sets2.ensures ∙ sym at-loop.loop.invariant.1
+    pair-rest sets_a_bit start.args.cells.now start.args.src.now at-loop.loop.i _ c.any-sets2.ensures ∙ sym at-loop.loop.invariant.1
 
 pub sets-a-bit-spec : {M : Type 1} → statement M
 sets-a-bit-spec =

@@ -2,7 +2,7 @@
 use Prim.Native.Nat.{◌+◌, ◌≤◌}
 use lib.ListN.{length}
 use borrow.Author.Tests.{lt-leb, le-leb}
-use Rattle.device.specs.Media.{would_set_aBit}
+use Rattle.device.specs.Media.{would_set_a_bit}
 use Rattle.basics.proofs.Parts.{part-lent}
 use borrow.Author.Rules.{rules}
 use Rattle.device_questions.proofs.would_set_a_bit.Statement.{statement}
@@ -12,7 +12,7 @@ add-wanted-end : tie.Need-overflow-add-wanted-end
 add-wanted-end c = search rules
 
 returns : tie.Need-returns
-unfolding would_set_aBit
+unfolding would_set_a_bit
 returns c = simp (lt-leb _ _ c.if1.true)
 
 sub-sets-a-bit : tie.Need-overflow-sub-sets-a-bit
@@ -28,7 +28,7 @@ sets-a-bit-requires : tie.Need-sets-a-bit-requires
 sets-a-bit-requires c κs = search rules
 
 returns-2 : tie.Need-returns-2
-unfolding would_set_aBit
+unfolding would_set_a_bit
 returns-2 c =
     let at-start = c.before.before.before.before.before in
     let media = at-start.args.media.now in
