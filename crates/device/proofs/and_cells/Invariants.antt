@@ -1,0 +1,24 @@
+-- `device::and_cells` meets its contract: after i turns the first i cells are their AND with `src` and the others as they were,
+-- and `changed` says whether one of those i differs from what it was. Assumes nothing.
+use mathlib.Core.Path.{◌≡◌, sym, ap, ◌∙◌}
+use mathlib.Core.Bool.{not}
+use mathlib.Core.Logic.{⊎_elim}
+use mathlib.Core.List.{◌++◌}
+use Prim.Native.Nat.{◌≤◌, ◌<◌, ◌-◌}
+use native.Mathlib.Omega.{arith}
+use lib.ListN.{length, take, drop, get_or, length-set}
+use lib.Bits.{bit_and}
+use borrow.Author.Rules.{rules}
+use borrow.Author.Tests.{eq-eqb, ne_eqb}
+use Rattle.device.specs.Media.{anded, any_pair, unequal}
+use Rattle.basics.proofs.Overwrites.{over-more, over-next, over-all}
+use Rattle.device.proofs.Pairs.{any-yes, any-no, any-all}
+use Rattle.device.proofs.Cells.{length-anded, get_or-anded}
+use Rattle.device.proofs.and_cells.Given as goal
+
+abbrev pub invariant-loop-i : goal.invariant-loop-i
+invariant-loop-i l = (l.i ≤ length l.src) × (length l.cells ≡ length l.initial.cells) × (l.cells ≡ take l.i (anded l.initial.cells l.src) ++ drop l.i l.initial.cells)
+    × (l.changed ≡ any_pair unequal (take l.i l.initial.cells) (take l.i (anded l.initial.cells l.src)))
+
+abbrev pub decreases-loop-i : goal.decreases-loop-i
+decreases-loop-i l = length l.src - l.i

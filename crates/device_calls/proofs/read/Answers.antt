@@ -1,0 +1,33 @@
+-- `device_calls::read` meets its contract: refused, the buffer is as it was; accepted, it is the part of the media. Assumes nothing.
+use mathlib.Core.Path.{sym, ap, ◌∙◌}
+use Prim.Native.Nat.{◌+◌, ◌≤◌}
+use lib.ListN.{length}
+use Rattle.basics.proofs.Parts.{part-lent, length_part}
+use Rattle.device_calls.proofs.Replies.{read-refused, read_fits, read-accepted}
+use borrow.Author.Rules.{rules}
+use Rattle.device_calls.proofs.read.Goals as goal
+use Rattle.device_calls.proofs.read.Goals.{In_default}
+
+-- an accepted read lies in the media
+fits : (c : goal.In_default) → c.args.offset + length c.args.dst.now
+    ≤ length c.args.media.now
+fits c = let start = c.args in
+    read_fits start.geometry start.media.now start.offset start.dst.now _ c.check_read-checked.ensures c.in_default.is
+
+pub returns-in-Refused : goal.returns-in-Refused
+returns-in-Refused c =
+    let start = c.args in
+    read-refused start.geometry start.media.now start.offset start.dst.now _ c.check_read-checked.ensures _ c.in-Refused.is
+
+pub copy_cells-requires : goal.copy_cells-requires
+copy_cells-requires c =
+    let start = c.args in
+    sym (ap length (part-lent start.media.now start.offset (length start.dst.now) (fits (goal.at.copy_cells-requires c).In_default))
+    ∙ length_part start.media.now start.offset (length start.dst.now) (fits (goal.at.copy_cells-requires c).In_default))
+
+pub returns : goal.returns
+returns c =
+    
+    let start = c.args in
+    read-accepted start.geometry start.media.now start.offset start.dst.now _ c.check_read-checked.ensures c.in_default.is _
+    c.copy_cells.ensures

@@ -1,0 +1,13 @@
+-- `digest::digest` meets its contract. After i turns, the digest of what is left, from the hash so far, is the digest of all.
+-- Assumes nothing.
+use Rattle.std.proofs.Common.{◌≡◌, ℕ, ◌+◌, ◌-◌, ◌≤◌, length, drop, sym, refl, ap, ◌∙◌, arith, rules}
+use mathlib.Core.List.{foldl}
+use Rattle.basics.proofs.Scans.{at-step, at-end}
+use Rattle.digest.specs.Fnv.{mixed, digest_of}
+use Rattle.digest.proofs.digest.Given as goal
+
+abbrev pub invariant-loop-i : goal.invariant-loop-i
+invariant-loop-i l = (l.i ≤ length l.bytes) × (foldl mixed l.hash (drop l.i l.bytes) ≡ digest_of l.bytes)
+
+abbrev pub decreases-loop-i : goal.decreases-loop-i
+decreases-loop-i l = length l.bytes - l.i

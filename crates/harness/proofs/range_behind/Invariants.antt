@@ -1,0 +1,19 @@
+-- `harness::range_behind` meets its contract: the rows not yet looked at tell what all tell. Assumes nothing.
+use mathlib.Core.Path.{◌≡◌}
+use Prim.Native.Nat.{◌-◌, ◌≤◌, ◌<◌}
+use native.Mathlib.Omega.{arith}
+use lib.ListN.{length}
+use borrow.Author.Rules.{rules}
+use Rattle.script.specs.Columns.{Columns, columns}
+use Rattle.script.specs.Held.{calls_in}
+use Rattle.rows.proofs.Rows.{rows_at}
+use Rattle.sweeps.specs.Decided.{range_behind}
+use Rattle.harness.proofs.Behind.{behind-first, behind-found, behind-next, behind-none}
+use Rattle.harness.proofs.range_behind.Given as goal
+
+abbrev pub invariant-loop-i : goal.invariant-loop-i
+invariant-loop-i l = let k = columns l.kinds l.firsts l.seconds l.thirds l.starts l.pool in
+    (range_behind 0 (calls_in l.rows k) ≡ range_behind l.operations (rows_at l.rows k l.i)) × (l.operations ≤ l.i)
+
+abbrev pub decreases-loop-i : goal.decreases-loop-i
+decreases-loop-i l = l.rows - l.i

@@ -1,0 +1,20 @@
+-- `inject_columns::write_bytes` meets its contract. The invariant: the first `done` byte points are stored, up to `next`. Assumes nothing.
+use mathlib.Core.Path.{◌≡◌, sym}
+use Prim.Native.Nat.{◌+◌, ◌-◌, ◌≤◌}
+use native.Mathlib.Nat.{add-zero}
+use native.Mathlib.Omega.{arith}
+use borrow.Author.Rules.{rules}
+use Rattle.inject_columns.specs.Answers.{columns_of}
+use Rattle.inject.specs.Steps.{steps}
+use Rattle.inject_columns.specs.Steps.{laid_from, bytes_at, rows}
+use Rattle.inject.proofs.Spans.{step_fits}
+use Rattle.inject_columns.proofs.Rows.{no_rows, byte-rows, kept, kept-room}
+use Rattle.inject_columns.proofs.write_bytes.Given as goal
+
+abbrev pub invariant-loop-done : goal.invariant-loop-done
+invariant-loop-done l = (l.done ≤ l.inner) × (l.next ≡ l.at + l.done)
+    × (rows l.next (columns_of l.ops l.progresses l.counts l.interruptions)
+    ≡ laid_from l.at (bytes_at l.op l.cause l.unit l.done) (columns_of l.initial.ops l.initial.progresses l.initial.counts l.initial.interruptions))
+
+abbrev pub decreases-loop-done : goal.decreases-loop-done
+decreases-loop-done l = l.inner - l.done

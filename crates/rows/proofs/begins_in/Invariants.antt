@@ -1,0 +1,17 @@
+-- `rows::begins_in` meets its contract: those found and those in the codes not yet read are all. Assumes nothing.
+use mathlib.Core.Path.{◌≡◌, sym, ap, ◌∙◌}
+use Prim.Native.Nat.{ℕ, ◌+◌, ◌-◌, ◌≤◌}
+use native.Mathlib.Omega.{arith}
+use mathlib.Core.Bool.{◌&&◌}
+use lib.ListN.{length, get_or, drop}
+use lib.Dec.{eqb}
+use borrow.Author.Rules.{rules}
+use Rattle.rows.specs.Rows.{takes, begins_from}
+use Rattle.rows.proofs.Scanned.{begins-row, begins-all, flag-le}
+use Rattle.rows.proofs.begins_in.Given as goal
+
+abbrev pub invariant-loop-i : goal.invariant-loop-i
+invariant-loop-i l = (l.i ≤ length l.kinds) × (l.begins ≤ l.i) × (l.marks ≤ l.i) × (begins_from 0 l.kinds ≡ l.begins + begins_from l.marks (drop l.i l.kinds))
+
+abbrev pub decreases-loop-i : goal.decreases-loop-i
+decreases-loop-i l = length l.kinds - l.i

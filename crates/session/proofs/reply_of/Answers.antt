@@ -1,0 +1,6 @@
+-- `session::reply_of` meets its contract. Assumes nothing.
+use borrow.Author.Rules.{rules}
+use Rattle.session.proofs.reply_of.Goals as goal
+
+pub returns : goal.returns
+returns c = simp (c.next_count-operations.ensures, c.is_armed.ensures)

@@ -1,0 +1,7 @@
+-- `sweep_heads::head_size` meets its contract. Assumes nothing.
+use borrow.Author.Rules.{rules}
+use Rattle.sweep_heads.proofs.Sizes.{head_few}
+use Rattle.sweep_heads.proofs.head_size.Goals as goal
+
+pub returns : goal.returns
+returns c = head_few _ _ _ _ _ _ _ c.places-placed.ensures c.point_size-pointed.ensures c.places-counted.ensures

@@ -1,0 +1,19 @@
+-- `sweep_lines::entries_fit` meets its contract: the fields of the rows from `i` on are to fit into what is left. Assumes nothing.
+use mathlib.Core.Path.{◌≡◌}
+use mathlib.Core.List.{flatten}
+use Prim.Native.Nat.{◌+◌, ◌-◌, ◌≤◌}
+use native.Mathlib.Omega.{arith}
+use lib.ListN.{length, drop}
+use lib.Dec.{leb}
+use borrow.Author.Rules.{rules}
+use Rattle.model.specs.Columns.{ledger_of}
+use Rattle.pieces.proofs.Rooms.{fit-not, fit-start, fit-room, fit-more, fit-out, fit-end}
+use Rattle.sweep_lines.specs.Fields.{ledger_pieces}
+use Rattle.sweep_lines.proofs.Entries.{rows-size, rows-size-end}
+use Rattle.sweep_lines.proofs.entries_fit.Given as goal
+
+abbrev pub invariant-loop-i : goal.invariant-loop-i
+invariant-loop-i l = (l.i ≤ length l.ids) × (leb (l.at + l.size + length (flatten (ledger_pieces (ledger_of l.ids l.states l.torn)))) l.room ≡ leb (length (flatten (ledger_pieces (drop l.i (ledger_of l.ids l.states l.torn))))) l.left)
+
+abbrev pub decreases-loop-i : goal.decreases-loop-i
+decreases-loop-i l = length l.ids - l.i
