@@ -1,18 +1,18 @@
 -- Pairs and the bytes that they stand for: how many there are, each one by its place, and `decode`, byte by byte.
 -- Assumes nothing.
 use mathlib.Core.Path.{◌≡◌, refl, ap, ap₂, sym, ◌∙◌}
-use mathlib.Core.Bool.{Bool, true, false, ◌&&◌}
+use mathlib.Core.Bool.{true, false, ◌&&◌}
 use mathlib.Core.List.{List, [], ◌∷◌, ◌++◌}
 use Prim.Native.Nat.{ℕ, zero, suc, ◌+◌, ◌-◌, ◌*◌, ◌/◌, ◌%◌, ◌≤◌, ◌<◌, min}
 use native.Mathlib.Nat.{not-suc-le-zero}
 use native.Mathlib.Omega.{arith}
-use lib.ListN.{length, get_or, set, take, drop, length-take, length-drop, length-append, length-set}
-use lib.Seq.{get_or-drop, get_or-take, take-length, length-take-le}
+use lib.ListN.{length, get_or, set, take, drop, length-take, length-drop}
+use lib.Seq.{get_or-drop, get_or-take, take-length}
 use lib.Dec.{leb}
-use borrow.Author.Tests.{le-leb, leb-true, leb-false}
+use borrow.Author.Tests.{leb-true}
 use Rattle.basics.proofs.Overwrites.{over-more}
 use Rattle.text.specs.Numbers.{is_digit}
-use Rattle.text.specs.Pairs.{is_letter, is_hex, all_hex, is_pairs, hex_of, pair_values, over}
+use Rattle.text.specs.Pairs.{is_letter, hex_of, pair_values}
 use Rattle.text.proofs.Plain.{both}
 use Rattle.hex_pairs.specs.Answers.{decoded}
 use Rattle.hex_pairs.specs.Inner.{Nibble}
@@ -104,5 +104,5 @@ module _ (s : List ℕ) (from : ℕ) (old : List ℕ) (count : ℕ) (e : count �
       let q : k ≡ length (new s from old) = omega arith in
       is ∙ ap (λ (m : ℕ). take m (new s from old) ++ drop m old) q ∙ ap (λ (t : List ℕ). t ++ drop (length (new s from old)) old) (take-length (new s from old))
 
--- all of them, for `search (needs, decodes)`
+-- all of them, for `search (rules, decodes)`
 pub ruleset decodes = (nibble-digit, nibble-letter, nibble-none)

@@ -4,22 +4,20 @@
 --     run-cut, run-ended, run-other    the field after which a run of digits ends
 -- Assumes nothing.
 use mathlib.Core.Path.{◌≡◌, refl, ap, sym, ◌∙◌}
-use mathlib.Core.Bool.{Bool, true, false, not, cond, ◌&&◌, ◌||◌}
+use mathlib.Core.Bool.{Bool, true, false, cond, ◌&&◌}
 use mathlib.Core.List.{List, [], ◌∷◌, ◌++◌}
-use Prim.Native.Nat.{ℕ, zero, suc, ◌+◌, ◌-◌, ◌*◌, ◌/◌, ◌%◌, ◌≤◌, ◌<◌}
+use Prim.Native.Nat.{ℕ, zero, suc, ◌+◌, ◌-◌, ◌/◌, ◌%◌, ◌≤◌, ◌<◌}
 use native.Mathlib.Nat.{not-suc-le-zero, le_of_suc-le-suc}
-use native.Mathlib.Numerals.{add-one}
 use native.Mathlib.Omega.{arith}
 use lib.ListN.{length, get_or, take, drop, drop_of_length-le, length-drop}
 use lib.Seq.{get_or-drop, drop-drop, length-take-le}
-use lib.Dec.{eqb, leb}
-use borrow.Author.Tests.{eq-eqb, ne_eqb, le-leb, lt-leb, leb-true, leb-false, not-true, not-false, eqb-true}
+use lib.Dec.{eqb}
+use borrow.Author.Tests.{eq-eqb, ne_eqb}
 use Rattle.basics.proofs.Scans.{at-step, at-end, take_more}
 use Rattle.text.specs.Fields.{Field, field, missing, onto, field_to}
 use Rattle.text.specs.Numbers.{is_digit}
 use Rattle.text.specs.Pairs.{is_letter, is_hex, all_hex, is_pairs}
 use Rattle.text.proofs.Plain.{both}
-use Rattle.hex_pairs.specs.declared.Pairs.{Pairs}
 use Rattle.hex_pairs.specs.declared.Pairs.TheVariants.{Paired, NoPairs}
 use Rattle.hex_pairs.specs.Answers.{pairs_at}
 use Rattle.hex_pairs.specs.Inner.{hexes, Skipped, Stopped}
@@ -50,13 +48,13 @@ all_more s i all digit h e q = rw (take_more s i 0 h, all_snoc (take i s) (get_o
 -- ---- a run of digits
 
 module _ (s : List ℕ) (i : ℕ) (h : i < length s) (digit : Bool) (q : digit ≡ is_hex (get_or s i 0)) where
-  pub hex-next : not digit ≡ false → hexes (drop i s) ≡ suc (hexes (drop (i + 1) s))
+  pub hex-next : digit ≡ true → hexes (drop i s) ≡ suc (hexes (drop (i + 1) s))
   unfolding hexes
-  hex-next n = at-step hexes s i 0 h ∙ simp (sym q, not-false digit n)
+  hex-next n = at-step hexes s i 0 h ∙ simp (sym q, n)
 
-  pub hex-stop : not digit ≡ true → hexes (drop i s) ≡ 0
+  pub hex-stop : digit ≡ false → hexes (drop i s) ≡ 0
   unfolding hexes
-  hex-stop n = at-step hexes s i 0 h ∙ simp (sym q, not-true digit n)
+  hex-stop n = at-step hexes s i 0 h ∙ simp (sym q, n)
 
 pub hex-out : (s : List ℕ) (i : ℕ) → length s ≤ i → hexes (drop i s) ≡ 0
 unfolding hexes
@@ -71,11 +69,11 @@ block (suc n) (x ∷ xs) h e =
     let r = block n xs (le_of_suc-le-suc h) t.1 in
     simp t.0 (omega (arith, r))
 
-pub block-next : (s : List ℕ) (i : ℕ) → 32 ≤ length s - i → (digits : Bool) → digits ≡ all_hex (take (i + 32 - i) (drop i s)) → not digits ≡ false
+pub block-next : (s : List ℕ) (i : ℕ) → 32 ≤ length s - i → (digits : Bool) → digits ≡ all_hex (take (i + 32 - i) (drop i s)) → digits ≡ true
     → i + hexes (drop i s) ≡ i + 32 + hexes (drop (i + 32) s)
 block-next s i h digits e n =
     let w : i + 32 - i ≡ 32 = omega arith in
-    let a : all_hex (take 32 (drop i s)) ≡ true = ap (λ (m : ℕ). all_hex (take m (drop i s))) (sym w) ∙ sym e ∙ not-false digits n in
+    let a : all_hex (take 32 (drop i s)) ≡ true = ap (λ (m : ℕ). all_hex (take m (drop i s))) (sym w) ∙ sym e ∙ n in
     let k : 32 ≤ length (drop i s) = rw length-drop h in
     let b : hexes (drop i s) ≡ 32 + hexes (drop 32 (drop i s)) = block 32 (drop i s) k a in
     let d : drop 32 (drop i s) ≡ drop (i + 32) s = drop-drop 32 i s in
@@ -88,19 +86,19 @@ pub skip-start : (s : List ℕ) (from : ℕ) → from ≤ length s → Skipped s
 skip-start s from h = record { low = omega arith; high = h; same = refl }
 
 module _ (s : List ℕ) (from i : ℕ) (w : Skipped s from i) where
-  pub skip_block : 32 ≤ length s - i → (digits : Bool) → digits ≡ all_hex (take (i + 32 - i) (drop i s)) → not digits ≡ false → Skipped s from (i + 32)
+  pub skip_block : 32 ≤ length s - i → (digits : Bool) → digits ≡ all_hex (take (i + 32 - i) (drop i s)) → digits ≡ true → Skipped s from (i + 32)
   skip_block h digits e n =
       let l = w.low in
       record { low = omega arith; high = omega arith; same = w.same ∙ block-next s i h digits e n }
 
   module _ (h : i < length s) (digit : Bool) (q : digit ≡ is_hex (get_or s i 0)) where
-    pub skip-digit : not digit ≡ false → Skipped s from (i + 1)
+    pub skip-digit : digit ≡ true → Skipped s from (i + 1)
     skip-digit n =
         let l = w.low in
         let b = w.same in
         record { low = omega arith; high = omega arith; same = omega (arith, hex-next s i h digit q n) }
 
-    pub stop-here : not digit ≡ true → Stopped s from i
+    pub stop-here : digit ≡ false → Stopped s from i
     stop-here n =
         let b = w.same in
         record { low = w.low; high = w.high; is = omega (arith, hex-stop s i h digit q n) }
@@ -228,5 +226,5 @@ module _ (s : List ℕ) (from r : ℕ) (w : Stopped s from r) where
           let e : from + (r - from) + 1 ≡ r + 1 = omega arith in
           rw (run.is, run.hex, wide, eq-eqb _ _ n, e)
 
--- all of them, for `search (needs, hexs)`
+-- all of them, for `search (rules, hexs)`
 pub ruleset hexs = (all_none, all_more, skip-start, skip_block, skip-digit, stop-here, stop-out, pairs-out, pairs-cut, pairs-other, pairs-odd, pairs-even)

@@ -1,6 +1,6 @@
 -- What `write_from` answers at each of its ways out, and that it is what `committed` and `acknowledged` promise: one law for each,
 -- whose premises are what the calls ensure and what the tests say. `asked` is all that `write_from` needs, for
--- `search (needs, asked)`. Assumes nothing.
+-- `search (rules, asked)`. Assumes nothing.
 use mathlib.Core.Path.{◌≡◌, refl, sym, ◌∙◌}
 use mathlib.Core.List.{List, ◌++◌}
 use Prim.Native.Nat.{ℕ, zero, suc, ◌≤◌, ◌<◌}

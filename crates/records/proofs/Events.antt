@@ -7,9 +7,9 @@ use mathlib.Core.List.{List, [], ◌∷◌, ◌++◌, append_assoc}
 use Prim.Native.Nat.{ℕ, suc, ◌+◌, ◌-◌}
 use native.Mathlib.Nat.{zero-add}
 use native.Mathlib.Omega.{arith}
-use lib.ListN.{length, take, drop, length-append}
+use lib.ListN.{length, drop, length-append}
 use lib.Seq.{take-append_seam, drop-append_seam}
-use Rattle.records.specs.Records.{Label, begin, end, RecordMark, Kept, next_place, record_at, records_to, records_of}
+use Rattle.records.specs.Records.{begin, end, RecordMark, Kept, next_place, record_at, records_to, records_of}
 use Rattle.records.specs.Events.{Event, took, noted, ops_in, to_mark, behind_mark, records_in, marks_after}
 
 module _ {A : Type 0} where

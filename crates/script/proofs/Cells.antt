@@ -3,16 +3,16 @@
 --     cells-last, cells-more           a field that is read up to an LF, or a tab, is the line's last, or one before others
 --     last-cell, more-cell             and the other way round
 -- Assumes nothing.
-use mathlib.Core.Path.{◌≡◌, refl, ap, sym, ◌∙◌}
+use mathlib.Core.Path.{◌≡◌, refl, ap, ◌∙◌}
 use mathlib.Core.Bool.{Bool, true, false, cond}
 use mathlib.Core.List.{List, [], ◌∷◌, ◌++◌}
-use Prim.Native.Nat.{ℕ, suc, ◌+◌, ◌≤◌, ◌<◌}
+use Prim.Native.Nat.{ℕ, ◌+◌, ◌≤◌, ◌<◌}
 use native.Mathlib.Omega.{arith}
 use lib.ListN.{length, drop}
 use lib.Dec.{eqb}
-use borrow.Author.Tests.{eq-eqb, ne_eqb, eqb-true}
-use Rattle.text.specs.Lines.{TextLine, ended, unended, onto_line, lines_of, onto_field, fields_of}
-use Rattle.text.specs.Fields.{Field, field, missing, onto, field_to}
+use borrow.Author.Tests.{ne_eqb}
+use Rattle.text.specs.Lines.{ended, unended, onto_line, lines_of, fields_of}
+use Rattle.text.specs.Fields.{Field, field, onto, field_to}
 use Rattle.text.proofs.Fields.{field-splits}
 use Rattle.text.proofs.Plain.{Plain}
 use Rattle.script.specs.Inner.{Cells, cells, broken, onto_cell, push_cell, cells_of, in_front}

@@ -1,13 +1,12 @@
 -- The filling pass: the columns hold the calls of the lines that were read, and then what they held before.
 -- Assumes nothing.
 use mathlib.Core.Path.{◌≡◌, refl, ap, ap₂, sym, ◌∙◌}
-use mathlib.Core.Bool.{Bool, true, false, ◌&&◌, ◌||◌, not}
 use mathlib.Core.List.{List, [], ◌∷◌, ◌++◌, append-nil, append_assoc, map}
-use Prim.Native.Nat.{ℕ, zero, suc, ◌+◌, ◌-◌, ◌*◌, ◌≤◌, ◌<◌}
+use Prim.Native.Nat.{ℕ, suc, ◌+◌, ◌-◌, ◌≤◌, ◌<◌}
 use native.Mathlib.Nat.{not-suc-le-zero, le_of_suc-le-suc, zero-add}
 use native.Mathlib.Omega.{arith}
-use lib.ListN.{length, set, take, drop, length-append, length-map, length-set, length-take, length-drop, drop_of_length-le, take-append-drop}
-use lib.Seq.{take_at, drop-append-add, drop-drop, length-take-le, drop-length, take-length}
+use lib.ListN.{length, set, take, drop, length-append, length-map, length-set, length-take, length-drop, take-append-drop}
+use lib.Seq.{take_at, drop-append-add, drop-drop, length-take-le, drop-length}
 use borrow.Rule.Slice.PartMut.{put_mid}
 use Rattle.basics.specs.Parts.{part, overlaid}
 use Rattle.basics.proofs.Parts.{part-back}
@@ -19,7 +18,7 @@ use Rattle.script.specs.declared.Line.TheVariants.{Call as Called, Faulty}
 use Rattle.script.specs.declared.Row.{Row}
 use Rattle.script.specs.Calls.{Call, malformed, Reading, calls, faulty, call_then, read_lines}
 use Rattle.script.specs.Columns.{Columns, columns, kind_of, first_in, second_in, third_in, bytes_in, starts_of, bytes_of, written}
-use Rattle.script.specs.Inner.{cells_of, meaning_in, Taken, Reads, Ready, calls_read, stored}
+use Rattle.script.specs.Inner.{cells_of, meaning_in, Taken, Reads, Ready, stored}
 use Rattle.script.proofs.Passes.{line-faulty, line_taken, no_lines, row-taken}
 
 -- ---- a list with its front replaced, one element or some more
@@ -298,5 +297,5 @@ module _ (s : List ℕ) (from : ℕ) (cs : List Call) (k₀ k : Columns) (at i u
             same : {k₁ k₂ a₁ a₂ b₁ b₂ d₁ d₂ s₁ s₂ p₁ p₂ : List ℕ} → k₁ ≡ k₂ → a₁ ≡ a₂ → b₁ ≡ b₂ → d₁ ≡ d₂ → s₁ ≡ s₂ → p₁ ≡ p₂ → columns k₁ a₁ b₁ d₁ s₁ p₁ ≡ columns k₂ a₂ b₂ d₂ s₂ p₂
             same e₁ e₂ e₃ e₄ e₅ e₆ = cc
 
--- for `search (needs, stores)`
+-- for `search (rules, stores)`
 pub ruleset stores = (store-none, store-some)

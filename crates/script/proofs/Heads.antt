@@ -1,14 +1,14 @@
 -- Line 1: what each way out of its readers says of it.
 -- Assumes nothing.
 use mathlib.Core.Path.{◌≡◌, refl, ap, ap₂, sym, ◌∙◌}
-use mathlib.Core.Bool.{Bool, true, false, not, cond, ◌&&◌, ◌||◌}
+use mathlib.Core.Bool.{Bool, true, false, not, ◌&&◌, ◌||◌}
 use mathlib.Core.List.{List, [], ◌∷◌}
-use Prim.Native.Nat.{ℕ, zero, suc, ◌+◌, ◌≤◌, ◌<◌}
+use Prim.Native.Nat.{ℕ, zero, suc, ◌≤◌, ◌<◌}
 use native.Mathlib.Nat.{suc-ne-zero}
 use native.Mathlib.Omega.{arith}
-use lib.ListN.{length, drop}
+use lib.ListN.{drop}
 use lib.Dec.{eqb, leb}
-use borrow.Author.Tests.{eq-eqb, ne_eqb, eqb-true, le-leb, lt-leb}
+use borrow.Author.Tests.{ne_eqb, eqb-true, le-leb, lt-leb}
 use Rattle.basics.specs.Tests.{unless, refuse_if, first_of}
 use Rattle.basics.proofs.Tests.{first_of-pass, first_of-stop}
 use Rattle.storage.specs.declared.Geometry.{Geometry}
@@ -22,14 +22,13 @@ use Rattle.read_fields.specs.declared.Letter.TheVariants.{One, NoLetter}
 use Rattle.text.specs.Fields.{field_to}
 use Rattle.text.specs.Numbers.{Decimal, number, none, number_of}
 use Rattle.read_fields.specs.Answers.{letter_at, number_at}
-use Rattle.script.specs.declared.Head.{Head}
 use Rattle.script.specs.Calls.{is_kind}
-use Rattle.script.specs.First.{FirstLine, given, no_head, head_is, head_with, headed, head_of, head_test}
+use Rattle.script.specs.First.{no_head, head_is, head_with, headed, head_of, head_test}
 use Rattle.script.specs.Inner.{Cells, cells, broken, cells_of, in_front, head_in, FourTaken, Unread, HeadTaken, ReadsUnits}
 use Rattle.script.specs.declared.Units.{Units}
 use Rattle.script.specs.declared.Units.TheVariants.{Four, NoUnits}
 use Rattle.script.proofs.Letters.{neither}
-use Rattle.script.proofs.Told.{Inner, inner-value, inner-none, inner-letter, inner-inside, inner-same, inner-no-letter, last_letter, last-inside, last-same, last-no-letter}
+use Rattle.script.proofs.Told.{Inner, inner-value, inner-none, inner-letter, inner-same, inner-no-letter, last_letter, last-inside, last-same, last-no-letter}
 
 -- ---- cells with a field in front
 
@@ -310,5 +309,5 @@ first-earlier a b n = sym (first_of-stop a (b ∷ []) n)
 pub first-later : (a b : ℕ) → a ≡ 0 → b ≡ first_of (a ∷ b ∷ [])
 first-later a b e = sym (first_of-pass a (b ∷ []) e ∙ one-alone b)
 
--- all of them, for `search (needs, heads)`
+-- all of them, for `search (rules, heads)`
 pub ruleset heads = (units-no-capacity, units-no-erase, units-no-program, units-no-read, units-four, head-no-kind, head-other, head-no-units, head-no-rule, head-other-rule, head-no-mode, head-other-mode, head-given, test-number, size-large, size-sound, first-earlier, first-later)

@@ -2,7 +2,7 @@
 -- Assumes nothing.
 use mathlib.Core.Path.{◌≡◌, refl, ap, sym, ◌∙◌}
 use mathlib.Core.List.{List, [], ◌∷◌, ◌++◌, append_assoc, map}
-use Prim.Native.Nat.{ℕ, zero, suc, ◌+◌}
+use Prim.Native.Nat.{ℕ, ◌+◌}
 use lib.ListN.{length, take, drop, length-append}
 use lib.Seq.{drop_at, take-append_seam}
 use Rattle.script.specs.Calls.{Call, begin, end, mark, program, erase, barrier}

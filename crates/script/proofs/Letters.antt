@@ -1,14 +1,13 @@
 -- A line after the first, by its letter: what each way out of the line readers says of the line.
 -- Assumes nothing.
-use mathlib.Core.Path.{◌≡◌, refl, ap, sym, ◌∙◌}
+use mathlib.Core.Path.{◌≡◌, refl, ap, ◌∙◌}
 use mathlib.Core.Bool.{Bool, true, false, cond, not, ◌&&◌}
-use mathlib.Core.List.{List, [], ◌∷◌, ◌++◌}
-use Prim.Native.Nat.{ℕ, suc, ◌+◌, ◌-◌, ◌*◌, ◌/◌, ◌%◌, ◌≤◌, ◌<◌}
+use mathlib.Core.List.{List, [], ◌∷◌}
+use Prim.Native.Nat.{ℕ, ◌+◌, ◌-◌, ◌*◌, ◌/◌, ◌%◌, ◌≤◌, ◌<◌}
 use native.Mathlib.Nat.{mul-le-mul, mul-pos}
-use native.Mathlib.Numerals.{add-one}
 use native.Mathlib.Omega.{arith}
-use lib.ListN.{length, get_or, take, drop, drop_of_length-le}
-use lib.Dec.{eqb, leb}
+use lib.ListN.{length, get_or, drop, drop_of_length-le}
+use lib.Dec.{eqb}
 use borrow.Author.Tests.{ne_eqb, eqb-true, eqb-false, le-leb, lt-leb}
 use Rattle.basics.proofs.Scans.{at-step}
 use Rattle.read_fields.specs.declared.Number.{Number}
@@ -20,9 +19,9 @@ use Rattle.text.specs.Numbers.{Decimal, number, none, number_of}
 use Rattle.text.specs.Pairs.{is_pairs, pair_values}
 use Rattle.read_fields.specs.Answers.{number_at}
 use Rattle.hex_pairs.specs.Answers.{pairs_at}
-use Rattle.script.specs.Calls.{Call, begin, end, mark, program, erase, barrier, Meaning, call, malformed, begin_with, mark_with, erase_with, program_with, is_bytes, is_kind, call_of}
+use Rattle.script.specs.Calls.{begin, end, mark, program, erase, barrier, malformed, begin_with, mark_with, erase_with, program_with, is_bytes, call_of}
 use Rattle.script.specs.Inner.{Cells, cells, broken, onto_cell, push_cell, cells_of, in_front, meaning_in, Opened, row_of, Taken}
-use Rattle.script.proofs.Told.{Inner, inner-value, inner-none, Last, last-value, last_none, PairsLast, pairs-value, pairs-none}
+use Rattle.script.proofs.Told.{inner-value, inner-none, last-value, last_none, pairs-value, pairs-none}
 
 -- ---- the letter and the byte after it
 
@@ -367,5 +366,5 @@ line-cut s from h k =
     ap (λ (l : List ℕ). meaning_in (cells_of l)) (at-step (λ (l : List ℕ). l) s from 0 h ∙ ap (λ (l : List ℕ). get_or s from 0 ∷ l) (drop_of_length-le s {i = from + 1} k))
     ∙ cut-by (eqb (get_or s from 0) 10) (eqb (get_or s from 0) 9) (get_or s from 0)
 
--- all of them, for `search (needs, letters)`
+-- all of them, for `search (rules, letters)`
 pub ruleset letters = (opened, alone-row, alone-faulty, begin-taken, begin-faulty, erase-faulty, erase-faulty-2, erase-taken, mark-faulty, mark-faulty-2, mark-faulty-3, mark-taken, program-faulty, program-faulty-2, program-faulty-3, program-taken, line-long-at, line-none-at, line-cut)

@@ -1,13 +1,11 @@
 -- The checking pass: what a turn over the lines shows, each way out, and what the whole script then is.
 -- Assumes nothing.
 use mathlib.Core.Path.{◌≡◌, refl, ap, ap₂, sym, ◌∙◌}
-use mathlib.Core.Bool.{Bool, true, false, cond}
 use mathlib.Core.List.{List, [], ◌∷◌, ◌++◌}
 use Prim.Native.Nat.{ℕ, suc, ◌+◌, ◌*◌, ◌≤◌, ◌<◌}
 use native.Mathlib.Nat.{add-zero}
 use native.Mathlib.Omega.{arith}
 use lib.ListN.{length, get_or, drop, drop_of_length-le, length-append}
-use lib.Dec.{eqb, leb}
 use borrow.Author.Tests.{eq-eqb, ne_eqb, le-leb, lt-leb}
 use Rattle.basics.proofs.Scans.{at-step}
 use Rattle.text.specs.Lines.{TextLine, ended, unended, lines_of, fields_of}
@@ -20,11 +18,11 @@ use Rattle.script.specs.declared.First.TheVariants.{Given, NoHead}
 use Rattle.script.specs.declared.Checked.{Checked}
 use Rattle.script.specs.declared.Checked.TheVariants.{Lines, Fault}
 use Rattle.script.specs.Calls.{Call, Meaning, call, malformed, call_of, meaning_of, Reading, calls, faulty, call_then, on_meaning, read_lines}
-use Rattle.script.specs.First.{FirstLine, given, no_head, head_of, first_of_line, head_test}
-use Rattle.script.specs.Script.{Script, script, refused, with_calls, with_test, with_first, with_lines, script_of}
+use Rattle.script.specs.First.{no_head, first_of_line, head_test}
+use Rattle.script.specs.Script.{refused, with_calls, with_test, with_lines, script_of}
 use Rattle.script.specs.Columns.{bytes_in, bytes_of}
 use Rattle.script.specs.Inner.{Cells, cells, broken, cells_of, meaning_in, head_in, Taken, Reads, HeadTaken, ReadsHead, checked_from, Sane}
-use Rattle.script.proofs.Cells.{Split, cells-split, cells-broken}
+use Rattle.script.proofs.Cells.{cells-split, cells-broken}
 
 -- ---- one line among the lines
 
@@ -179,5 +177,5 @@ module _ (s : List ℕ) (l : length s ≤ 65536) (rf : First) where
                 record { cs = cs; is = by-calls ∙ rw i; lines = i; count = omega arith; size = omega arith; inside = body-inside; short = l }
             by (faulty m) i x = absurd (let o : ◌≡◌ {A = ℕ} 0 1 = cc in omega arith)
 
--- all of them, for `search (needs, passes)`
+-- all of them, for `search (rules, passes)`
 pub ruleset passes = (sofar-start, sofar-end, sofar-fault, sofar-next, whole_long, whole-no-head, body-inside, whole-test, whole-fault, whole-sound)

@@ -1,9 +1,9 @@
 -- Room in the lent columns, and what `count_calls` and `read_script` answer and leave.
 -- Assumes nothing.
 use mathlib.Core.Path.{◌≡◌, refl, ap, ap₂, sym, ◌∙◌}
-use mathlib.Core.Bool.{Bool, true, false, cond, not, ◌&&◌, ◌||◌}
+use mathlib.Core.Bool.{Bool, true, false, not, ◌&&◌, ◌||◌}
 use mathlib.Core.List.{List, [], ◌∷◌}
-use Prim.Native.Nat.{ℕ, ◌≤◌, ◌<◌}
+use Prim.Native.Nat.{ℕ, ◌≤◌}
 use native.Mathlib.Omega.{arith}
 use lib.ListN.{length, drop}
 use lib.Dec.{eqb, leb, ltb}
@@ -15,13 +15,12 @@ use Rattle.text.proofs.Plain.{both}
 use Rattle.script.specs.declared.Head.{Head}
 use Rattle.script.specs.declared.Whole.{Whole}
 use Rattle.script.specs.declared.Whole.TheVariants.{Good, Bad}
-use Rattle.script.specs.declared.ReadScript.{ReadScript}
 use Rattle.script.specs.declared.ReadScript.TheVariants.{Read, Refused}
-use Rattle.script.specs.Calls.{Call, calls, read_lines}
-use Rattle.script.specs.Script.{Script, script, refused, script_of}
-use Rattle.script.specs.Columns.{Columns, columns, bytes_of, written, room_for, room_test, count_of, After, after, with_room, read_into}
+use Rattle.script.specs.Calls.{Call, read_lines}
+use Rattle.script.specs.Script.{script, refused, script_of}
+use Rattle.script.specs.Columns.{Columns, columns, bytes_of, written, room_for, room_test, count_of, after, read_into}
 use Rattle.script.specs.Inner.{Sane, Checks, Ready, calls_read}
-use Rattle.script.proofs.Enough.{Enough, enough}
+use Rattle.script.proofs.Enough.{enough}
 
 -- ---- room_refusal
 
@@ -162,5 +161,5 @@ never-short s h cs kinds firsts seconds thirds starts pool e k a b c t p =
     let y : length (bytes_of cs) ≤ 32768 = n.bytes in
     simp (e, k, a, b, c, t, p, le-leb _ _ x, le-leb _ _ y)
 
--- all of them, for `search (needs, rooms)`
+-- all of them, for `search (rules, rooms)`
 pub ruleset rooms = (room-unequal, room-short, room-enough, count-bad, count-good, read-bad, read-no-room, read-ready, read_done)

@@ -1,24 +1,22 @@
 -- The round trip: what is printed for a line 1 and a list of calls reads as that line 1 and those calls.
 -- Assumes nothing.
-use mathlib.Core.Path.{◌≡◌, refl, ap, sym, ◌∙◌}
+use mathlib.Core.Path.{◌≡◌, refl, ap, ◌∙◌}
 use mathlib.Core.List.{List, [], ◌∷◌, ◌++◌, append-nil, append_assoc}
-use mathlib.Core.Bool.{Bool, true, false, cond, ◌&&◌}
-use Prim.Native.Nat.{ℕ, zero, suc, ◌+◌, ◌≤◌, ◌<◌}
+use mathlib.Core.Bool.{Bool, true, false, cond}
+use Prim.Native.Nat.{ℕ, ◌+◌, ◌≤◌, ◌<◌}
 use native.Mathlib.Omega.{arith}
 use lib.ListN.{length}
-use lib.Dec.{eqb, leb}
 use borrow.Author.Tests.{ne_eqb, le-leb}
-use Rattle.storage.specs.declared.Geometry.{Geometry}
 use Rattle.storage.specs.Geometry.{geometry_of}
-use Rattle.text.specs.Lines.{TextLine, ended, unended, onto_line, lines_of, onto_field, fields_of}
-use Rattle.text.specs.Numbers.{largest, Decimal, number, none, number_of, decimal_of}
-use Rattle.text.specs.Pairs.{is_pairs, pair_values, AllBytes, pairs_text}
+use Rattle.text.specs.Lines.{TextLine, ended, lines_of, fields_of}
+use Rattle.text.specs.Numbers.{largest, decimal_of}
+use Rattle.text.specs.Pairs.{AllBytes, pairs_text}
 use Rattle.text.proofs.Plain.{Plain}
 use Rattle.text.proofs.ReadBack.{decimal-plain, decimal-read, pairs-plain, pairs-are, pairs-read}
 use Rattle.script.specs.declared.Head.{Head}
-use Rattle.script.specs.Calls.{Call, begin, end, mark, program, erase, barrier, Meaning, call, malformed, is_bytes, call_of, meaning_of, Reading, calls, faulty, call_then, read_lines}
-use Rattle.script.specs.First.{FirstLine, given, no_head, head_is, headed, head_of, first_of_line, head_test}
-use Rattle.script.specs.Script.{Script, script, refused, with_lines, script_of}
+use Rattle.script.specs.Calls.{Call, begin, end, mark, program, erase, barrier, call, is_bytes, call_of, meaning_of, calls, call_then, read_lines}
+use Rattle.script.specs.First.{given, head_is, headed, head_of, first_of_line}
+use Rattle.script.specs.Script.{script, script_of}
 use Rattle.script.specs.Print.{joined, fields_in, print_calls, head_fields, printed, Sayable, AllSayable, Sound}
 use Rattle.script.proofs.Passes.{line-by}
 

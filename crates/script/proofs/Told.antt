@@ -2,10 +2,9 @@
 -- others, those that were read up to an LF are the last field; and where none was read, that field is none.
 -- Assumes nothing.
 use mathlib.Core.Path.{◌≡◌, refl, ap, sym, ◌∙◌}
-use mathlib.Core.Bool.{Bool, true, false, cond, ◌&&◌}
+use mathlib.Core.Bool.{Bool, true, false, cond}
 use mathlib.Core.List.{List, [], ◌∷◌, ◌++◌}
-use Prim.Native.Nat.{ℕ, suc, ◌+◌, ◌-◌, ◌*◌, ◌/◌, ◌%◌, ◌≤◌, ◌<◌}
-use native.Mathlib.Numerals.{add-one}
+use Prim.Native.Nat.{ℕ, suc, ◌+◌, ◌-◌, ◌/◌, ◌%◌, ◌≤◌, ◌<◌}
 use native.Mathlib.Omega.{arith}
 use lib.ListN.{length, take, drop, length-append, length-drop}
 use lib.Seq.{drop-drop, take_at}
@@ -23,9 +22,9 @@ use Rattle.text.specs.Pairs.{all_hex, is_pairs, pair_values}
 use Rattle.read_fields.specs.Answers.{letter_at, number_then, number_at}
 use Rattle.hex_pairs.specs.Answers.{pairs_at}
 use Rattle.text.proofs.Fields.{field-splits}
-use Rattle.text.proofs.Plain.{Plain, both, number-plain, hex-plain}
+use Rattle.text.proofs.Plain.{both, number-plain, hex-plain}
 use Rattle.hex_pairs.proofs.Bytes.{pair-count, pairs-append}
-use Rattle.script.specs.Inner.{Cells, cells, broken, cells_of, in_front}
+use Rattle.script.specs.Inner.{cells, cells_of, in_front}
 use Rattle.script.proofs.Cells.{cells-last, cells-more, last-cell, more-cell}
 
 -- ---- a field that was read, as it stands in the text

@@ -1,6 +1,6 @@
 -- The lent columns, a row for each call, and the lent pool, which holds the bytes of all programs one after the other.
 -- Definitions only; assumes nothing.
-use Rattle.std.specs.Prelude.{Bool, cond, ◌&&◌, List, [], ◌∷◌, ◌++◌, map, ℕ, ◌+◌, length, eqb, leb}
+use Rattle.std.specs.Prelude.{cond, ◌&&◌, List, [], ◌∷◌, ◌++◌, map, ℕ, ◌+◌, length, eqb, leb}
 use Rattle.basics.specs.Tests.{unless, first_of}
 use Rattle.text.specs.Pairs.{over}
 use Rattle.script.specs.declared.ReadScript.{ReadScript}

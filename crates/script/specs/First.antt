@@ -1,7 +1,7 @@
 -- Document 01, "Scripts and the two programs": "Line 1, and only it: `G`, capacity, erase, program, read, `a` or `r` (absorbed,
 -- rejected), `s` or `c` (the writer stops at its first error and returns it, or carries on and returns success)."
 -- Definitions only; assumes nothing.
-use Rattle.std.specs.Prelude.{Bool, true, false, cond, ◌&&◌, ◌||◌, List, [], ◌∷◌, ℕ, leb}
+use Rattle.std.specs.Prelude.{Bool, true, false, ◌&&◌, ◌||◌, List, [], ◌∷◌, ℕ, leb}
 use Rattle.basics.specs.Tests.{unless, first_of}
 use Rattle.storage.specs.declared.Geometry.{Geometry}
 use Rattle.storage.specs.Geometry.{geometry_of, geometry_test}

@@ -1,6 +1,6 @@
 -- What private functions answer. No public contract cites these.
 -- Definitions only; assumes nothing.
-use Rattle.std.specs.Prelude.{◌≡◌, Bool, cond, List, [], ◌∷◌, ℕ, ◌+◌, ◌-◌, ◌≤◌, ◌<◌, length, take, drop, eqb}
+use Rattle.std.specs.Prelude.{◌≡◌, cond, List, [], ◌∷◌, ℕ, ◌+◌, ◌-◌, ◌≤◌, ◌<◌, length, take, drop, eqb}
 use Rattle.basics.specs.Parts.{part, overlaid}
 use Rattle.storage.specs.declared.Geometry.{Geometry}
 use Rattle.text.specs.Lines.{lines_of}

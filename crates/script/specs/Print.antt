@@ -1,7 +1,6 @@
 -- A script as text: what is printed for a line 1 and a list of calls, so that reading it gives them back.
 -- Definitions only; assumes nothing.
-use Rattle.std.specs.Prelude.{◌≡◌, Bool, cond, List, [], ◌∷◌, ◌++◌, ℕ, ◌≤◌, length}
-use Rattle.storage.specs.declared.Geometry.{Geometry}
+use Rattle.std.specs.Prelude.{◌≡◌, cond, List, [], ◌∷◌, ◌++◌, ℕ, ◌≤◌, length}
 use Rattle.text.specs.Numbers.{largest, decimal_of}
 use Rattle.text.specs.Pairs.{AllBytes, pairs_text}
 use Rattle.script.specs.declared.Head.{Head}

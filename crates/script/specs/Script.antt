@@ -1,6 +1,6 @@
 -- Document 01, "Numbers from the input": "Order in a script: 9, then the first faulty line, with 8 before 1 to 3 and 10."
 -- Definitions only; assumes nothing.
-use Rattle.std.specs.Prelude.{cond, List, [], ◌∷◌, ◌++◌, ℕ, length, eqb, leb}
+use Rattle.std.specs.Prelude.{cond, List, [], ◌∷◌, ℕ, length, eqb, leb}
 use Rattle.text.specs.Lines.{TextLine, lines_of}
 use Rattle.script.specs.declared.Head.{Head}
 use Rattle.script.specs.Calls.{Call, Reading, calls, faulty, read_lines}

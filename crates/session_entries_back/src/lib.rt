@@ -1,5 +1,5 @@
 // A log of entries got back into the session's six columns: the other way of `session_entries`' `to_entries`, by the same tests, in a
-// crate of its own because its proof is long.
+// crate of its own.
 #![tactic(auto)]
 
 ghost use Rattle.std.specs.Prelude.{◌≡◌};

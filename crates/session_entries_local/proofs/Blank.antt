@@ -40,7 +40,7 @@ blank-val = array_val (replicate 1024 (T'.lowered no_entry))
 pub none_is : Is T.the_row no_entry (T'.lowered no_entry ∷ [])
 none_is = LL.owes T.the_type T'.the_laws no_entry ((refl, lit< tt), ((refl, lit< tt), ((refl, lit< tt), ((refl, lit< tt), ((refl, lit< tt), ((refl, lit< tt), tt))))))
 
-repeat-is : (R : RattleType) (x : R.Denot) (u : Val) → Is R x (u ∷ []) → (n : ℕ) → shadow (each R.Denot R.own (replicate n x) (replicate n u))
+repeat-is : (R : RattleType) (x : R.Denot) (u : Val) → Is R x (u ∷ []) → (n : ℕ) → shadow (each R.Denot R.own_val (replicate n x) (replicate n u))
 repeat-is R x u g zero = tt
 repeat-is R x u g (suc n) = (g, repeat-is R x u g n)
 

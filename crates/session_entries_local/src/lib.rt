@@ -1,6 +1,6 @@
 // Callers that have a log of entries in a local and lend it to `session_entries` and `session_entries_back`: for a caller without a
 // slice of entries, as `session_lent`'s `barrier_once` is for one without lent counters. Their parameters are columns, numbers and an
-// entry, so whoever calls them needs no proof by hand; they themselves are proved by hand.
+// entry.
 #![tactic(auto)]
 
 ghost use Rattle.std.specs.Prelude.{◌≡◌};

@@ -15,9 +15,9 @@
 use device::OneWayBits;
 use inject::{Injection, Interruption, Progress};
 use landing::Stop;
-use libc::STDOUT_FILENO;
 use session::{Armed, Counters, Entry, Told};
 use session_entries::EntryAnswer;
+use std::io;
 use storage::Geometry;
 
 fn told() -> Told {
@@ -35,18 +35,17 @@ fn told() -> Told {
     session::told_with(geometry, OneWayBits::Absorbed, armed)
 }
 
-fn print_number(n: u64, after: &[u8; 1]) {
-    io::print_decimal(STDOUT_FILENO, n);
-    io::write_all(STDOUT_FILENO, after);
+fn print_number(rt: &impl Print, n: u64, after: &str) -> io::Result<()> {
+    print!(rt; "{n}{after}")
 }
 
-fn show_entry(entry: Entry) {
-    print_number(entry.kind as u64, b" ");
-    print_number(entry.offset as u64, b" ");
-    print_number(entry.len as u64, b" ");
-    print_number(entry.digest, b" ");
-    print_number(entry.changed as u64, b" ");
-    print_number(entry.answered as u64, b"\n");
+fn show_entry(rt: &impl Print, entry: Entry) -> io::Result<()> {
+    print_number(rt, entry.kind as u64, " ")?;
+    print_number(rt, entry.offset as u64, " ")?;
+    print_number(rt, entry.len as u64, " ")?;
+    print_number(rt, entry.digest, " ")?;
+    print_number(rt, entry.changed as u64, " ")?;
+    print_number(rt, entry.answered as u64, "\n")
 }
 
 fn cell_u8(cells: &[u8], at: usize) -> u8 {
@@ -71,6 +70,7 @@ fn cell_u64(cells: &[u64], at: usize) -> u64 {
 }
 
 fn show_row(
+    rt: &impl Print,
     kinds: &[u8],
     offsets: &[u32],
     lens: &[u32],
@@ -78,16 +78,17 @@ fn show_row(
     changed: &[u8],
     answered: &[u8],
     index: usize,
-) {
-    print_number(cell_u8(kinds, index) as u64, b" ");
-    print_number(cell_u32(offsets, index) as u64, b" ");
-    print_number(cell_u32(lens, index) as u64, b" ");
-    print_number(cell_u64(digests, index), b" ");
-    print_number(cell_u8(changed, index) as u64, b" ");
-    print_number(cell_u8(answered, index) as u64, b"\n");
+) -> io::Result<()> {
+    print_number(rt, cell_u8(kinds, index) as u64, " ")?;
+    print_number(rt, cell_u32(offsets, index) as u64, " ")?;
+    print_number(rt, cell_u32(lens, index) as u64, " ")?;
+    print_number(rt, cell_u64(digests, index), " ")?;
+    print_number(rt, cell_u8(changed, index) as u64, " ")?;
+    print_number(rt, cell_u8(answered, index) as u64, "\n")
 }
 
 fn step(
+    rt: &impl Print,
     counters: Counters,
     kinds: &mut [u8],
     offsets: &mut [u32],
@@ -96,7 +97,7 @@ fn step(
     changed: &mut [u8],
     answered: &mut [u8],
     index: usize,
-) -> Counters {
+) -> io::Result<Counters> {
     let called = session_lent::barrier_once(
         told(),
         counters,
@@ -108,10 +109,10 @@ fn step(
         answered,
     );
     let after = called.counters;
-    print_number(called.answer as u64, b" ");
-    print_number(after.operations as u64, b" ");
-    show_row(kinds, offsets, lens, digests, changed, answered, index);
-    after
+    print_number(rt, called.answer as u64, " ")?;
+    print_number(rt, after.operations as u64, " ")?;
+    show_row(rt, kinds, offsets, lens, digests, changed, answered, index)?;
+    Ok(after)
 }
 
 fn fresh() -> Counters {
@@ -137,6 +138,7 @@ fn erased() -> Entry {
 }
 
 fn ask(
+    rt: &impl Print,
     kinds: &[u8],
     offsets: &[u32],
     lens: &[u32],
@@ -145,7 +147,7 @@ fn ask(
     answered: &[u8],
     at: usize,
     index: usize,
-) {
+) -> io::Result<()> {
     let answer = session_entries_local::entry_with(
         kinds,
         offsets,
@@ -159,49 +161,59 @@ fn ask(
     );
     match answer {
         EntryAnswer::Found(entry) => {
-            print_number(0, b" ");
-            show_entry(entry);
+            print_number(rt, 0, " ")?;
+            show_entry(rt, entry)
         }
-        EntryAnswer::NotThere(number) => print_number(number as u64, b"\n"),
+        EntryAnswer::NotThere(number) => print_number(rt, number as u64, "\n"),
     }
 }
 
 fn ask_all(
+    rt: &impl Print,
     kinds: &[u8],
     offsets: &[u32],
     lens: &[u32],
     digests: &[u64],
     changed: &[u8],
     answered: &[u8],
-) {
-    ask(kinds, offsets, lens, digests, changed, answered, 2, 0);
-    ask(kinds, offsets, lens, digests, changed, answered, 2, 2);
-    ask(kinds, offsets, lens, digests, changed, answered, 2, 3);
-    ask(kinds, offsets, lens, digests, changed, answered, 2, 1024);
-    ask(kinds, offsets, lens, digests, changed, answered, 1024, 0);
+) -> io::Result<()> {
+    ask(rt, kinds, offsets, lens, digests, changed, answered, 2, 0)?;
+    ask(rt, kinds, offsets, lens, digests, changed, answered, 2, 2)?;
+    ask(rt, kinds, offsets, lens, digests, changed, answered, 2, 3)?;
+    ask(
+        rt, kinds, offsets, lens, digests, changed, answered, 2, 1024,
+    )?;
+    ask(
+        rt, kinds, offsets, lens, digests, changed, answered, 1024, 0,
+    )?;
     let short = [0u8; 1023];
-    ask(&short, offsets, lens, digests, changed, answered, 2, 0);
-    ask(&short, offsets, lens, digests, changed, answered, 2, 1023);
+    ask(rt, &short, offsets, lens, digests, changed, answered, 2, 0)?;
+    ask(
+        rt, &short, offsets, lens, digests, changed, answered, 2, 1023,
+    )
 }
 
-fn ask_long() {
+fn ask_long(rt: &impl Print) -> io::Result<()> {
     let kinds = [0u8; 1025];
     let offsets = [0u32; 1025];
     let lens = [0u32; 1025];
     let digests = [0u64; 1025];
     let changed = [0u8; 1025];
     let answered = [0u8; 1025];
-    ask(&kinds, &offsets, &lens, &digests, &changed, &answered, 2, 0);
+    ask(
+        rt, &kinds, &offsets, &lens, &digests, &changed, &answered, 2, 0,
+    )
 }
 
 fn start(
+    rt: &impl Print,
     kinds: &mut [u8],
     offsets: &mut [u32],
     lens: &mut [u32],
     digests: &mut [u64],
     changed: &mut [u8],
     answered: &mut [u8],
-) {
+) -> io::Result<()> {
     let answer = session_entries_local::start_with(
         erased(),
         kinds,
@@ -211,11 +223,11 @@ fn start(
         changed,
         answered,
     );
-    print_number(answer as u64, b" ");
-    show_row(kinds, offsets, lens, digests, changed, answered, 0);
+    print_number(rt, answer as u64, " ")?;
+    show_row(rt, kinds, offsets, lens, digests, changed, answered, 0)
 }
 
-fn start_all() {
+fn start_all(rt: &impl Print) -> io::Result<()> {
     let mut kinds = [7u8; 1024];
     let mut offsets = [7u32; 1024];
     let mut lens = [7u32; 1024];
@@ -223,17 +235,20 @@ fn start_all() {
     let mut changed = [7u8; 1024];
     let mut answered = [7u8; 1024];
     start(
+        rt,
         &mut kinds,
         &mut offsets,
         &mut lens,
         &mut digests,
         &mut changed,
         &mut answered,
-    );
-    show_row(&kinds, &offsets, &lens, &digests, &changed, &answered, 1);
+    )?;
+    show_row(
+        rt, &kinds, &offsets, &lens, &digests, &changed, &answered, 1,
+    )
 }
 
-fn start_short() {
+fn start_short(rt: &impl Print) -> io::Result<()> {
     let mut longer = [7u8; 1024];
     let mut kinds = [7u8; 1023];
     let mut offsets = [7u32; 1023];
@@ -242,24 +257,26 @@ fn start_short() {
     let mut changed = [7u8; 1023];
     let mut answered = [7u8; 1023];
     start(
+        rt,
         &mut longer,
         &mut offsets,
         &mut lens,
         &mut digests,
         &mut changed,
         &mut answered,
-    );
+    )?;
     start(
+        rt,
         &mut kinds,
         &mut offsets,
         &mut lens,
         &mut digests,
         &mut changed,
         &mut answered,
-    );
+    )
 }
 
-fn run_session() {
+fn run_session(rt: &impl Print) -> io::Result<()> {
     let mut kinds = [0u8; 1024];
     let mut offsets = [0u32; 1024];
     let mut lens = [0u32; 1024];
@@ -267,6 +284,7 @@ fn run_session() {
     let mut changed = [0u8; 1024];
     let mut answered = [0u8; 1024];
     let first = step(
+        rt,
         fresh(),
         &mut kinds,
         &mut offsets,
@@ -275,8 +293,9 @@ fn run_session() {
         &mut changed,
         &mut answered,
         0,
-    );
+    )?;
     let second = step(
+        rt,
         first,
         &mut kinds,
         &mut offsets,
@@ -285,8 +304,9 @@ fn run_session() {
         &mut changed,
         &mut answered,
         1,
-    );
+    )?;
     step(
+        rt,
         second,
         &mut kinds,
         &mut offsets,
@@ -295,13 +315,13 @@ fn run_session() {
         &mut changed,
         &mut answered,
         2,
-    );
-    ask_all(&kinds, &offsets, &lens, &digests, &changed, &answered);
+    )?;
+    ask_all(rt, &kinds, &offsets, &lens, &digests, &changed, &answered)
 }
 
-fn main() {
-    run_session();
-    ask_long();
-    start_all();
-    start_short();
+fn main(rt: HostRuntime) -> io::Result<()> {
+    run_session(&rt)?;
+    ask_long(&rt)?;
+    start_all(&rt)?;
+    start_short(&rt)
 }

@@ -2,11 +2,9 @@
 -- and `changed` says whether one of those i differs from what it was. Assumes nothing.
 use mathlib.Core.Path.{◌≡◌, sym, ap, ◌∙◌}
 use mathlib.Core.Bool.{not}
-use mathlib.Core.Logic.{⊎_elim}
-use mathlib.Core.List.{◌++◌}
-use Prim.Native.Nat.{◌≤◌, ◌<◌, ◌-◌}
+use Prim.Native.Nat.{◌<◌}
 use native.Mathlib.Omega.{arith}
-use lib.ListN.{length, take, drop, get_or, length-set}
+use lib.ListN.{length, get_or, length-set}
 use lib.Bits.{bit_and}
 use borrow.Author.Rules.{rules}
 use borrow.Author.Tests.{eq-eqb, ne_eqb}
@@ -15,6 +13,7 @@ use Rattle.basics.proofs.Overwrites.{over-more, over-next, over-all}
 use Rattle.device.proofs.Pairs.{any-yes, any-no, any-all}
 use Rattle.device.proofs.Cells.{length-anded, get_or-anded}
 use Rattle.device.proofs.and_cells.Goals as goal
+use Rattle.device.proofs.and_cells.Goals.{then-after-cell, else-after-cell}
 
 pub loop-i-init : goal.loop-i-init
 unfolding any_pair
@@ -22,7 +21,6 @@ loop-i-init c = search rules
 
 pub loop-i-preserved : goal.loop-i-preserved
 loop-i-preserved c =
-    
     let old = c.args.cells.now in
     let src = c.args.src.now in
     let new = anded old src in
@@ -35,15 +33,14 @@ loop-i-preserved c =
       omega arith,
       simp length-set c.loop-i.invariant.1,
       over-more new old c.loop-i.cells i (bit_and (get_or c.loop-i.cells i 0) (get_or src i 0)) 0 n h c.loop-i.invariant.2 next,
-      ⊎_elim
-          (λ w. w.1 ∙ sym (any-yes unequal old new i h n (ap not (ne_eqb _ _ (λ e. w.0.taken (next ∙ sym e ∙ sym cell))))))
-          (λ w. w.1 ∙ c.loop-i.invariant.3 ∙ sym (any-no unequal old new i h n (ap not (eq-eqb _ _ (sym cell ∙ sym w.0.left ∙ next)))))
-          c.if-after-cell.branch,
+      elim c.if-after-cell.branch [
+        | then-after-cell w ↦ w.changed-is ∙ sym (any-yes unequal old new i h n (ap not (ne_eqb _ _ (λ e. w.if-after-cell.true (next ∙ sym e ∙ sym cell)))))
+        | else-after-cell w ↦ w.changed-is ∙ c.loop-i.invariant.3 ∙ sym (any-no unequal old new i h n (ap not (eq-eqb _ _ (sym cell ∙ sym w.if-after-cell.false ∙ next))))
+      ],
     )
 
 pub returns : goal.returns
 returns c =
-    
     let old = c.args.cells.now in
     let src = c.args.src.now in
     let new = anded old src in

@@ -1,19 +1,10 @@
 -- `device::and_cells` meets its contract: after i turns the first i cells are their AND with `src` and the others as they were,
 -- and `changed` says whether one of those i differs from what it was. Assumes nothing.
-use mathlib.Core.Path.{◌≡◌, sym, ap, ◌∙◌}
-use mathlib.Core.Bool.{not}
-use mathlib.Core.Logic.{⊎_elim}
+use mathlib.Core.Path.{◌≡◌}
 use mathlib.Core.List.{◌++◌}
-use Prim.Native.Nat.{◌≤◌, ◌<◌, ◌-◌}
-use native.Mathlib.Omega.{arith}
-use lib.ListN.{length, take, drop, get_or, length-set}
-use lib.Bits.{bit_and}
-use borrow.Author.Rules.{rules}
-use borrow.Author.Tests.{eq-eqb, ne_eqb}
+use Prim.Native.Nat.{◌≤◌, ◌-◌}
+use lib.ListN.{length, take, drop}
 use Rattle.device.specs.Media.{anded, any_pair, unequal}
-use Rattle.basics.proofs.Overwrites.{over-more, over-next, over-all}
-use Rattle.device.proofs.Pairs.{any-yes, any-no, any-all}
-use Rattle.device.proofs.Cells.{length-anded, get_or-anded}
 use Rattle.device.proofs.and_cells.Given as goal
 
 abbrev pub invariant-loop-i : goal.invariant-loop-i

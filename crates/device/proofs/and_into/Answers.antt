@@ -1,11 +1,9 @@
 -- `device::and_into` meets its contract: after i turns the first i bytes of `out` are the AND and the others as they were. Assumes nothing.
 use mathlib.Core.Path.{◌≡◌, sym, ◌∙◌}
-use mathlib.Core.List.{◌++◌}
-use Prim.Native.Nat.{◌≤◌, ◌<◌, ◌-◌}
+use Prim.Native.Nat.{◌<◌}
 use native.Mathlib.Omega.{arith}
-use lib.ListN.{length, take, drop, get_or, length-set}
+use lib.ListN.{length, get_or, length-set}
 use lib.Bits.{bit_and}
-use borrow.Author.Rules.{rules}
 use Rattle.basics.proofs.Overwrites.{over-more, over-all}
 use Rattle.device.specs.Media.{anded}
 use Rattle.device.proofs.Cells.{length-anded, get_or-anded}
@@ -13,7 +11,6 @@ use Rattle.device.proofs.and_into.Goals as goal
 
 pub loop-i-preserved : goal.loop-i-preserved
 loop-i-preserved c =
-    
     let cells = c.args.cells.now in
     let src = c.args.src.now in
     let old = c.args.out.now in
@@ -30,7 +27,6 @@ loop-i-preserved c =
 
 pub returns : goal.returns
 returns c =
-    
     let cells = c.args.cells.now in
     let src = c.args.src.now in
     let old = c.args.out.now in

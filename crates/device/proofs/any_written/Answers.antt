@@ -1,15 +1,15 @@
 -- `device::any_written` meets its contract: `found` says whether one of the cells passed is not erased. Assumes nothing.
 use mathlib.Core.Path.{◌≡◌, sym, ap, ◌∙◌}
 use mathlib.Core.Bool.{not}
-use mathlib.Core.Logic.{⊎_elim}
-use Prim.Native.Nat.{ℕ, ◌≤◌, ◌<◌, ◌-◌}
+use Prim.Native.Nat.{ℕ, ◌<◌}
 use native.Mathlib.Omega.{arith}
-use lib.ListN.{length, take, get_or, replicate, length-replicate, get_or-replicate}
+use lib.ListN.{length, get_or, replicate, length-replicate, get_or-replicate}
 use borrow.Author.Rules.{rules}
 use borrow.Author.Tests.{eq-eqb, ne_eqb}
 use Rattle.device.specs.Media.{ff, any_pair, unequal}
 use Rattle.device.proofs.Pairs.{any-yes, any-no, any-all}
 use Rattle.device.proofs.any_written.Goals as goal
+use Rattle.device.proofs.any_written.Goals.{then-cells-i, else-cells-i}
 
 pub loop-i-init : goal.loop-i-init
 unfolding any_pair
@@ -17,7 +17,6 @@ loop-i-init c = search rules
 
 pub loop-i-preserved : goal.loop-i-preserved
 loop-i-preserved c =
-    
     let xs = c.args.cells.now in
     let ys = replicate (length xs) ff in
     let i = c.loop-i.i in
@@ -25,15 +24,14 @@ loop-i-preserved c =
     let k : i < length ys = rw length-replicate h in
     let y : get_or ys i 0 ≡ ff = get_or-replicate (length xs) i ff 0 h in (
       omega arith,
-      ⊎_elim
-          (λ w. w.1 ∙ sym (any-yes unequal xs ys i h k (ap (λ (z : ℕ). unequal (get_or xs i 0) z) y ∙ ap not (ne_eqb _ _ w.0.taken))))
-          (λ w. w.1 ∙ c.loop-i.invariant.1 ∙ sym (any-no unequal xs ys i h k (ap (λ (z : ℕ). unequal (get_or xs i 0) z) y ∙ ap not (eq-eqb _ _ w.0.left))))
-          c.if-cells-i.branch,
+      elim c.if-cells-i.branch [
+        | then-cells-i w ↦ w.found-is ∙ sym (any-yes unequal xs ys i h k (ap (λ (z : ℕ). unequal (get_or xs i 0) z) y ∙ ap not (ne_eqb _ _ w.if-cells-i.true)))
+        | else-cells-i w ↦ w.found-is ∙ c.loop-i.invariant.1 ∙ sym (any-no unequal xs ys i h k (ap (λ (z : ℕ). unequal (get_or xs i 0) z) y ∙ ap not (eq-eqb _ _ w.if-cells-i.false)))
+      ],
     )
 
 pub returns : goal.returns
 returns c =
-    
     let xs = c.args.cells.now in
     let ys = replicate (length xs) ff in
     let i = c.loop-i.i in

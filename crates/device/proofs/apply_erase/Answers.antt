@@ -8,7 +8,6 @@ use Rattle.basics.proofs.Parts.{part-lent, length_part}
 use Rattle.device.specs.Media.{ff, erased}
 use Rattle.device.proofs.Pairs.{any_same}
 use Rattle.device.proofs.Applied.{applied-part}
-use borrow.Author.Rules.{rules}
 use Rattle.device.proofs.apply_erase.Goals as goal
 
 pub returns-then-erase_end-media : goal.returns-then-erase_end-media
@@ -18,11 +17,10 @@ returns-then-erase_end-media c = simp (lt-leb _ _ c.if-erase_end-media.true, any
 pub returns : goal.returns
 unfolding erased on_part
 returns c =
-    
     let media = c.args.media.now in
     let offset = c.args.offset in
     let len = c.args.len in
     let fits : offset + len ≤ length media = c.if-erase_end-media.false in
     let n : length (take (offset + len - offset) (drop offset media)) ≡ len = ap length (part-lent media offset len fits) ∙ length_part media offset len fits in
-    rw (le-leb _ _ fits) (applied-part media offset len fits c.erase_cells.new.0 (replicate len ff) c.erase_cells.result (length-replicate len ff)
+    rw (le-leb _ _ fits) (applied-part media offset len fits c.erase_cells.new.cells (replicate len ff) c.erase_cells.result (length-replicate len ff)
     (rw n at c.erase_cells.ensures))

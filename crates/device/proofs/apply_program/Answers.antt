@@ -1,5 +1,4 @@
 -- `device::apply_program` meets its contract: what the AND loop left of the part and told of it, said of the media. Assumes nothing.
-use borrow.Author.Rules.{rules}
 use borrow.Author.Tests.{lt-leb, le-leb}
 use mathlib.Core.Path.{◌≡◌, ◌∙◌}
 use Prim.Native.Nat.{◌+◌, ◌≤◌}
@@ -19,12 +18,11 @@ returns-then-program_end-media c = simp (lt-leb _ _ c.if-program_end-media.true,
 pub returns : goal.returns
 unfolding programmed on_part
 returns c =
-    
     let media = c.args.media.now in
     let src = c.args.src.now in
     let offset = c.args.offset in
     let fits : offset + length src ≤ length media = c.if-program_end-media.false in
     let new = anded (part media offset (length src)) src in
     let l : length new ≡ length src = length-anded (part media offset (length src)) src (length_part media offset (length src) fits) ∙ length_part media offset (length src) fits in
-    rw (le-leb _ _ fits) (applied-part media offset (length src) fits c.and_cells.new.0 new c.and_cells.result l
+    rw (le-leb _ _ fits) (applied-part media offset (length src) fits c.and_cells.new.cells new c.and_cells.result l
     (rw (← part-lent media offset (length src) fits) c.and_cells.ensures))

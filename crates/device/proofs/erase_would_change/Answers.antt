@@ -7,7 +7,6 @@ use borrow.Author.Tests.{lt-leb, le-leb}
 use Rattle.basics.specs.Parts.{part}
 use Rattle.basics.proofs.Parts.{part-lent, length_part}
 use Rattle.device.specs.Media.{ff, any_pair, unequal, erase_would_change}
-use borrow.Author.Rules.{rules}
 use Rattle.device.proofs.erase_would_change.Goals as goal
 
 pub returns-then-asked_end-media : goal.returns-then-asked_end-media
@@ -17,7 +16,6 @@ returns-then-asked_end-media c = simp (lt-leb _ _ c.if-asked_end-media.true)
 pub returns : goal.returns
 unfolding erase_would_change
 returns c =
-    
     let media = c.args.media.now in
     let offset = c.args.offset in
     let len = c.args.len in

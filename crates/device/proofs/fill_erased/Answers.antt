@@ -1,9 +1,8 @@
 -- `device::fill_erased` meets its contract: after i turns the first i media are erased and the others as they were. Assumes nothing.
-use mathlib.Core.Path.{◌≡◌, sym, ◌∙◌}
-use mathlib.Core.List.{◌++◌}
-use Prim.Native.Nat.{◌≤◌, ◌<◌, ◌-◌}
+use mathlib.Core.Path.{sym, ◌∙◌}
+use Prim.Native.Nat.{◌<◌}
 use native.Mathlib.Omega.{arith}
-use lib.ListN.{length, take, drop, replicate, length-set, length-replicate, get_or-replicate}
+use lib.ListN.{length, replicate, length-set, length-replicate, get_or-replicate}
 use borrow.Author.Rules.{rules}
 use Rattle.device.specs.Media.{ff}
 use Rattle.basics.proofs.Overwrites.{over-more, over-all}

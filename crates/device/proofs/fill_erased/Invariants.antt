@@ -1,12 +1,9 @@
 -- `device::fill_erased` meets its contract: after i turns the first i media are erased and the others as they were. Assumes nothing.
-use mathlib.Core.Path.{◌≡◌, sym, ◌∙◌}
+use mathlib.Core.Path.{◌≡◌}
 use mathlib.Core.List.{◌++◌}
-use Prim.Native.Nat.{◌≤◌, ◌<◌, ◌-◌}
-use native.Mathlib.Omega.{arith}
-use lib.ListN.{length, take, drop, replicate, length-set, length-replicate, get_or-replicate}
-use borrow.Author.Rules.{rules}
+use Prim.Native.Nat.{◌≤◌, ◌-◌}
+use lib.ListN.{length, take, drop, replicate}
 use Rattle.device.specs.Media.{ff}
-use Rattle.basics.proofs.Overwrites.{over-more, over-all}
 use Rattle.device.proofs.fill_erased.Given as goal
 
 abbrev pub invariant-loop-filled : goal.invariant-loop-filled

@@ -5,7 +5,6 @@ use lib.ListN.{length}
 use lib.Seq.{length-take-le}
 use Rattle.basics.proofs.Parts.{part-lent, length_part}
 use Rattle.device.proofs.Postimages.{post-outside, post-short, post-written}
-use borrow.Author.Rules.{rules}
 use Rattle.device.proofs.postimage_of.Goals as goal
 
 pub returns-then-image_end-media : goal.returns-then-image_end-media
@@ -19,7 +18,6 @@ slice_bounds-and_into-end-3 c = sym (length-take-le _ _ c.if-out-count.false)
 
 pub and_into-requires : goal.and_into-requires
 and_into-requires c =
-    
     let media = c.args.media.now in
     let src = c.args.src.now in
     let fits : c.args.offset + length src ≤ length media = c.if-image_end-media.false in

@@ -1,11 +1,9 @@
 -- `device::slice_is_erased` meets its contract: the cells before `i` are all erased, so some cell is not exactly if one from `i` on is not.
 -- Assumes nothing.
-use mathlib.Core.Path.{◌≡◌, sym, ap, ◌∙◌}
+use mathlib.Core.Path.{◌≡◌}
 use Prim.Native.Nat.{◌-◌, ◌≤◌}
 use lib.ListN.{length, drop}
-use mathlib.Core.Bool.{not}
-use Rattle.device.proofs.Pairs.{written, found, passed, fill-block, fill-rest}
-use borrow.Author.Rules.{rules}
+use Rattle.device.proofs.Pairs.{written}
 use Rattle.device.proofs.slice_is_erased.Given as goal
 
 abbrev pub invariant-loop-i : goal.invariant-loop-i

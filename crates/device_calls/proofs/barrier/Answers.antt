@@ -3,7 +3,6 @@ use lib.ListN.{length}
 use Rattle.device_calls.specs.Calls.{barrier_refusal}
 use Rattle.device_calls.proofs.Numbers.{small-geometry}
 use Rattle.device_calls.proofs.Replies.{media-checked}
-use borrow.Author.Rules.{rules}
 use Rattle.device_calls.proofs.barrier.Goals as goal
 
 pub returns : goal.returns

@@ -5,7 +5,6 @@ use Rattle.device_calls.specs.Answers.{replied}
 use Rattle.device_calls.specs.Calls.{read_refusal}
 use Rattle.storage.proofs.Numbers.{span-most}
 use Rattle.device_calls.proofs.Replies.{media-checked, long-small, too_long, span-passed}
-use borrow.Author.Rules.{rules}
 use Rattle.device_calls.proofs.check_read.Goals as goal
 
 pub returns-then-read_len-gt-LONGEST : goal.returns-then-read_len-gt-LONGEST

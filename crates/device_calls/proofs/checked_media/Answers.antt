@@ -1,6 +1,5 @@
 -- `device_calls::checked_media` meets its contract: the geometry's answer as it was, then the length's test. Assumes nothing.
 use Rattle.device_calls.proofs.Replies.{media-refused, media-legal, media-illegal}
-use borrow.Author.Rules.{rules}
 use Rattle.device_calls.proofs.checked_media.Goals as goal
 
 pub returns-in-Illegal : goal.returns-in-Illegal

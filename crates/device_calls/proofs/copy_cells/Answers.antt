@@ -1,16 +1,12 @@
 -- `device_calls::copy_cells` meets its contract: after i turns the first i bytes of `dst` are the cells' and the others as they were. Assumes nothing.
-use mathlib.Core.Path.{◌≡◌, refl, ◌∙◌}
-use mathlib.Core.List.{◌++◌}
-use Prim.Native.Nat.{◌≤◌, ◌-◌}
+use mathlib.Core.Path.{refl, ◌∙◌}
 use native.Mathlib.Omega.{arith}
-use lib.ListN.{length, take, drop, get_or, length-set}
+use lib.ListN.{get_or, length-set}
 use Rattle.basics.proofs.Overwrites.{over-more, over-all}
-use borrow.Author.Rules.{rules}
 use Rattle.device_calls.proofs.copy_cells.Goals as goal
 
 pub loop-copied-preserved : goal.loop-copied-preserved
 loop-copied-preserved c =
-    
     let new = c.args.cells.now in
     let old = c.args.dst.now in
     let i = c.loop-copied.copied in (
@@ -21,5 +17,4 @@ loop-copied-preserved c =
 
 pub returns : goal.returns
 returns c =
-    
     c.loop-copied.invariant.2 ∙ over-all c.args.cells.now c.args.dst.now c.loop-copied.copied (omega arith) (omega arith)

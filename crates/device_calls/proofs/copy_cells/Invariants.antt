@@ -1,11 +1,8 @@
 -- `device_calls::copy_cells` meets its contract: after i turns the first i bytes of `dst` are the cells' and the others as they were. Assumes nothing.
-use mathlib.Core.Path.{◌≡◌, refl, ◌∙◌}
+use mathlib.Core.Path.{◌≡◌}
 use mathlib.Core.List.{◌++◌}
 use Prim.Native.Nat.{◌≤◌, ◌-◌}
-use native.Mathlib.Omega.{arith}
-use lib.ListN.{length, take, drop, get_or, length-set}
-use Rattle.basics.proofs.Overwrites.{over-more, over-all}
-use borrow.Author.Rules.{rules}
+use lib.ListN.{length, take, drop}
 use Rattle.device_calls.proofs.copy_cells.Given as goal
 
 abbrev pub invariant-loop-copied : goal.invariant-loop-copied

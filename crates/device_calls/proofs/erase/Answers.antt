@@ -6,7 +6,6 @@ use Rattle.device_calls.specs.Answers.{replied}
 use Rattle.device_calls.specs.Calls.{erase_refusal}
 use Rattle.storage.proofs.Numbers.{span-most}
 use Rattle.device_calls.proofs.Replies.{media-checked, erase-refused, erase-accepted}
-use borrow.Author.Rules.{rules}
 use Rattle.device_calls.proofs.erase.Goals as goal
 use Rattle.device_calls.proofs.erase.Goals.{After-checked_media-checked}
 
@@ -24,7 +23,6 @@ returns-in-Refused c =
 
 pub returns : goal.returns
 returns c =
-    
     let start = c.args in
     erase-accepted start.geometry start.media.now start.offset start.len _ (told (goal.at.returns c).After-checked_media-checked) c.in_default.is _
     (ap (λ (a : Applied). a.media) c.apply_erase.ensures)

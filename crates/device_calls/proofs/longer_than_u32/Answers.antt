@@ -1,6 +1,5 @@
 -- `device_calls::longer_than_u32` meets its contract: the geometry's number where it has one, else 6. Assumes nothing.
 use Rattle.device_calls.proofs.Replies.{long-legal, long-illegal}
-use borrow.Author.Rules.{rules}
 use Rattle.device_calls.proofs.longer_than_u32.Goals as goal
 
 pub returns-in-Legal : goal.returns-in-Legal

@@ -4,7 +4,6 @@ use Prim.Native.Nat.{◌+◌, ◌≤◌}
 use lib.ListN.{length}
 use Rattle.basics.proofs.Parts.{part-lent, length_part}
 use Rattle.device_calls.proofs.Replies.{read-refused, read_fits, read-accepted}
-use borrow.Author.Rules.{rules}
 use Rattle.device_calls.proofs.read.Goals as goal
 use Rattle.device_calls.proofs.read.Goals.{In_default}
 
@@ -27,7 +26,9 @@ copy_cells-requires c =
 
 pub returns : goal.returns
 returns c =
-    
     let start = c.args in
     read-accepted start.geometry start.media.now start.offset start.dst.now _ c.check_read-checked.ensures c.in_default.is _
     c.copy_cells.ensures
+
+pub slice_bounds-copy_cells-end : goal.slice_bounds-copy_cells-end
+slice_bounds-copy_cells-end c = fits (goal.at.slice_bounds-copy_cells-end c).In_default

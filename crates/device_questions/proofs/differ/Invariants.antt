@@ -1,11 +1,9 @@
 -- `device_questions::differ` meets its contract: no cell before `i` differs, so some cell does exactly if one from `i` on does.
 -- Assumes nothing.
-use mathlib.Core.Path.{◌≡◌, refl, sym, ap, ◌∙◌}
-use Prim.Native.Nat.{ℕ, ◌+◌, ◌-◌, ◌≤◌}
+use mathlib.Core.Path.{◌≡◌}
+use Prim.Native.Nat.{◌-◌, ◌≤◌}
 use lib.ListN.{length, drop}
-use borrow.Author.Rules.{rules}
 use Rattle.device.specs.Media.{any_pair, unequal}
-use Rattle.device.proofs.Pairs.{block-lengths, found, passed, pair-block, pair-rest}
 use Rattle.device_questions.proofs.differ.Given as goal
 
 abbrev pub invariant-loop-i : goal.invariant-loop-i

@@ -4,7 +4,6 @@ use lib.ListN.{length}
 use borrow.Author.Tests.{lt-leb, le-leb}
 use Rattle.device.specs.Media.{differs_from}
 use Rattle.basics.proofs.Parts.{part-lent}
-use borrow.Author.Rules.{rules}
 use Rattle.device_questions.proofs.differs_from.Goals as goal
 
 pub returns-then-expected_end-media : goal.returns-then-expected_end-media
@@ -14,7 +13,6 @@ returns-then-expected_end-media c = simp (lt-leb _ _ c.if-expected_end-media.tru
 pub returns : goal.returns
 unfolding differs_from
 returns c =
-    
     let media = c.args.media.now in
     let src = c.args.expected.now in
     let offset = c.args.offset in

@@ -1,11 +1,9 @@
 -- `device_questions::sets_a_bit` meets its contract: no byte before `i` has a 1 where its cell has 0, so some byte has exactly if one from `i` on has.
 -- Assumes nothing.
-use mathlib.Core.Path.{◌≡◌, refl, sym, ap, ◌∙◌}
-use Prim.Native.Nat.{ℕ, ◌+◌, ◌-◌, ◌≤◌}
+use mathlib.Core.Path.{◌≡◌}
+use Prim.Native.Nat.{◌-◌, ◌≤◌}
 use lib.ListN.{length, drop}
-use borrow.Author.Rules.{rules}
 use Rattle.device.specs.Media.{any_pair, sets_a_bit}
-use Rattle.device.proofs.Pairs.{block-lengths, found, passed, pair-block, pair-rest}
 use Rattle.device_questions.proofs.sets_a_bit.Given as goal
 
 abbrev pub invariant-loop-i : goal.invariant-loop-i

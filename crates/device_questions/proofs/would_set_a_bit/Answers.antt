@@ -4,7 +4,6 @@ use lib.ListN.{length}
 use borrow.Author.Tests.{lt-leb, le-leb}
 use Rattle.device.specs.Media.{would_set_a_bit}
 use Rattle.basics.proofs.Parts.{part-lent}
-use borrow.Author.Rules.{rules}
 use Rattle.device_questions.proofs.would_set_a_bit.Goals as goal
 
 pub returns-then-wanted_end-media : goal.returns-then-wanted_end-media
@@ -14,7 +13,6 @@ returns-then-wanted_end-media c = simp (lt-leb _ _ c.if-wanted_end-media.true)
 pub returns : goal.returns
 unfolding would_set_a_bit
 returns c =
-    
     let media = c.args.media.now in
     let src = c.args.src.now in
     let offset = c.args.offset in

@@ -1,6 +1,6 @@
 -- `digest::digest` meets its contract. After i turns, the digest of what is left, from the hash so far, is the digest of all.
 -- Assumes nothing.
-use Rattle.std.proofs.Common.{◌≡◌, ℕ, ◌+◌, ◌-◌, ◌≤◌, length, drop, sym, refl, ap, ◌∙◌, arith, rules}
+use Rattle.std.proofs.Common.{ℕ, ◌+◌, drop, sym, refl, ap, ◌∙◌, arith, rules}
 use mathlib.Core.List.{foldl}
 use Rattle.basics.proofs.Scans.{at-step, at-end}
 use Rattle.digest.specs.Fnv.{mixed, digest_of}
@@ -13,7 +13,6 @@ loop-i-init c = (search rules, refl)
 pub loop-i-preserved : goal.loop-i-preserved
 unfolding mixed
 loop-i-preserved c =
-    
     let i = c.loop-i.i in
     let hash = c.loop-i.hash in
     let bytes = c.args.bytes.now in (

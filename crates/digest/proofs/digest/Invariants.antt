@@ -1,8 +1,7 @@
 -- `digest::digest` meets its contract. After i turns, the digest of what is left, from the hash so far, is the digest of all.
 -- Assumes nothing.
-use Rattle.std.proofs.Common.{◌≡◌, ℕ, ◌+◌, ◌-◌, ◌≤◌, length, drop, sym, refl, ap, ◌∙◌, arith, rules}
+use Rattle.std.proofs.Common.{◌≡◌, ◌-◌, ◌≤◌, length, drop}
 use mathlib.Core.List.{foldl}
-use Rattle.basics.proofs.Scans.{at-step, at-end}
 use Rattle.digest.specs.Fnv.{mixed, digest_of}
 use Rattle.digest.proofs.digest.Given as goal
 

@@ -1,8 +1,9 @@
 -- `digest::wrapping_mul` meets its contract. The sum so far, and the product of what is left, are modulo 2^64 the whole product.
 -- Assumes nothing.
-use Rattle.std.proofs.Common.{◌≡◌, ◌+◌, ◌*◌, ◌%◌, ◌^◌, ◌<◌, ◌∙◌, ⊎_elim, arith, rules}
+use Rattle.std.proofs.Common.{◌∙◌, arith}
 use Rattle.digest.proofs.Product.{odd, even, none_left}
 use Rattle.digest.proofs.wrapping_mul.Goals as goal
+use Rattle.digest.proofs.wrapping_mul.Goals.{then-bits-eq1, else-bits-eq1}
 
 pub loop-bits-init : goal.loop-bits-init
 loop-bits-init c = (omega arith, omega arith)
@@ -10,11 +11,11 @@ loop-bits-init c = (omega arith, omega arith)
 pub loop-bits-preserved : goal.loop-bits-preserved
 loop-bits-preserved c =
     let turn = c.loop-bits in (
-      ⊎_elim (λ w. let e = w.2 ∙ w.1.ensures in omega arith) (λ w. let e = w.1 in omega arith) c.if-bits-eq1.branch,
-      ⊎_elim
-          (λ w. odd turn.product turn.shifted turn.bits _ w.0.taken (w.2 ∙ w.1.ensures))
-          (λ w. even turn.product turn.shifted turn.bits _ (omega arith) w.1)
-          c.if-bits-eq1.branch
+      elim c.if-bits-eq1.branch [ then-bits-eq1 w ↦ omega arith | else-bits-eq1 w ↦ omega arith ],
+      elim c.if-bits-eq1.branch [
+        | then-bits-eq1 w ↦ odd turn.product turn.shifted turn.bits _ w.if-bits-eq1.true (w.product-is ∙ w.wrapping_add_u64-product.ensures.value)
+        | else-bits-eq1 w ↦ even turn.product turn.shifted turn.bits _ (omega arith) w.product-is
+      ]
           ∙ turn.invariant.1,
     )
 

@@ -1,7 +1,6 @@
 -- `digest::wrapping_mul` meets its contract. The sum so far, and the product of what is left, are modulo 2^64 the whole product.
 -- Assumes nothing.
-use Rattle.std.proofs.Common.{◌≡◌, ◌+◌, ◌*◌, ◌%◌, ◌^◌, ◌<◌, ◌∙◌, ⊎_elim, arith, rules}
-use Rattle.digest.proofs.Product.{odd, even, none_left}
+use Rattle.std.proofs.Common.{◌≡◌, ◌+◌, ◌*◌, ◌%◌, ◌^◌, ◌<◌}
 use Rattle.digest.proofs.wrapping_mul.Given as goal
 
 abbrev pub invariant-loop-bits : goal.invariant-loop-bits

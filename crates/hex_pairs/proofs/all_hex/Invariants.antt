@@ -1,13 +1,8 @@
 -- `hex_pairs::all_hex` meets its contract. The loop has the flag of the bytes passed. Assumes nothing.
-use mathlib.Core.Path.{◌≡◌, ap, ◌∙◌}
+use mathlib.Core.Path.{◌≡◌}
 use Prim.Native.Nat.{◌-◌, ◌≤◌}
 use lib.ListN.{length, take}
-use lib.Seq.{take_all}
 use Rattle.text.specs.Pairs.{all_hex}
-use Rattle.hex_pairs.proofs.Runs.{hexs}
-use borrow.Author.Rules.{rules}
-use mathlib.Core.Path.{◌≡◌, sym, ap, ◌∙◌}
-use Rattle.hex_pairs.proofs.Runs.{all_none, all_more}
 use Rattle.hex_pairs.proofs.all_hex.Given as goal
 
 abbrev pub invariant-loop-i : goal.invariant-loop-i

@@ -1,15 +1,8 @@
 -- `hex_pairs::decode` meets its contract. The loop has stored the first `k` of the bytes that are to be stored. Assumes nothing.
 use native.Mathlib.Omega.{arith}
 use borrow.Author.Rules.{rules}
-use mathlib.Core.Path.{◌≡◌, refl}
-use mathlib.Core.List.{◌++◌}
-use Prim.Native.Nat.{◌+◌, ◌-◌, ◌*◌, ◌≤◌}
-use lib.ListN.{length, take, drop, length-set}
-use Rattle.hex_pairs.proofs.Bytes.{new, decode-next, decode-end}
+use Rattle.hex_pairs.proofs.Bytes.{decode-next, decode-end}
 use Rattle.hex_pairs.proofs.decode.Goals as goal
-
-pub loop-k-init : goal.loop-k-init
-loop-k-init c = (search rules, search rules, search rules, refl)
 
 pub loop-k-preserved : goal.loop-k-preserved
 loop-k-preserved c =

@@ -1,11 +1,9 @@
 -- `hex_pairs::decode` meets its contract. The loop has stored the first `k` of the bytes that are to be stored. Assumes nothing.
-use native.Mathlib.Omega.{arith}
-use borrow.Author.Rules.{rules}
-use mathlib.Core.Path.{◌≡◌, refl}
+use mathlib.Core.Path.{◌≡◌}
 use mathlib.Core.List.{◌++◌}
 use Prim.Native.Nat.{◌+◌, ◌-◌, ◌*◌, ◌≤◌}
-use lib.ListN.{length, take, drop, length-set}
-use Rattle.hex_pairs.proofs.Bytes.{new, decode-next, decode-end}
+use lib.ListN.{length, take, drop}
+use Rattle.hex_pairs.proofs.Bytes.{new}
 use Rattle.hex_pairs.proofs.decode.Given as goal
 
 abbrev pub invariant-loop-k : goal.invariant-loop-k

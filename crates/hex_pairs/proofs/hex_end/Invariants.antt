@@ -1,9 +1,7 @@
 -- `hex_pairs::hex_end` meets its contract. The loop has gone from `from` to `i` over digits alone. Assumes nothing.
-use borrow.Author.Rules.{rules}
 use Prim.Native.Nat.{◌-◌}
 use lib.ListN.{length}
 use Rattle.hex_pairs.specs.Inner.{Skipped}
-use Rattle.hex_pairs.proofs.Runs.{hexs}
 use Rattle.hex_pairs.proofs.hex_end.Given as goal
 
 abbrev pub invariant-loop-i : goal.invariant-loop-i

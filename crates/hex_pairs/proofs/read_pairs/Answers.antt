@@ -6,26 +6,14 @@ use Rattle.hex_pairs.proofs.read_pairs.Goals as goal
 pub returns-then-text-from : goal.returns-then-text-from
 returns-then-text-from c = search (rules, hexs)
 
-pub hex_end-stop-requires : goal.hex_end-stop-requires
-hex_end-stop-requires c = search (rules, hexs)
-
 pub returns-then-text-stop : goal.returns-then-text-stop
 returns-then-text-stop c = search (rules, hexs)
-
-pub bounds-text-stop : goal.bounds-text-stop
-bounds-text-stop c = search (rules, hexs)
 
 pub returns-then-text-stop-ne-LF : goal.returns-then-text-stop-ne-LF
 returns-then-text-stop-ne-LF c = search (rules, hexs)
 
-pub overflow_sub-size : goal.overflow_sub-size
-overflow_sub-size c = search (rules, hexs)
-
 pub returns-then-size-ne0 : goal.returns-then-size-ne0
 returns-then-size-ne0 c = search (rules, hexs)
-
-pub overflow_add-result : goal.overflow_add-result
-overflow_add-result c = search (rules, hexs)
 
 pub returns : goal.returns
 returns c = search (rules, hexs)

@@ -1,13 +1,9 @@
 -- `history::count_kept` meets its contract: what is counted and what is still to be counted make up the whole. Assumes nothing.
-use mathlib.Core.Path.{◌≡◌, ap}
-use mathlib.Core.Logic.{⊎_elim}
-use Prim.Native.Nat.{◌+◌, ◌-◌, ◌≤◌, ◌<◌}
-use native.Mathlib.Omega.{arith}
+use mathlib.Core.Path.{◌≡◌}
+use Prim.Native.Nat.{◌+◌, ◌-◌, ◌≤◌}
 use lib.ListN.{length, drop}
-use borrow.Author.Rules.{rules}
 use Rattle.model.specs.Columns.{ledger_of}
 use Rattle.history.specs.History.{suggested}
-use Rattle.history.proofs.Kept.{kept_row, left-row, kept-end}
 use Rattle.history.proofs.count_kept.Given as goal
 
 abbrev pub invariant-loop-i : goal.invariant-loop-i

@@ -1,15 +1,10 @@
 -- `history::fill_kept` meets its contract: n ids are written over the front of the column, and the rows from `row` on have the others. Assumes nothing.
-use mathlib.Core.Path.{◌≡◌, ◌∙◌}
-use mathlib.Core.Logic.{⊎_elim}
-use mathlib.Core.Bool.{Bool, true}
-use mathlib.Core.List.{List, ◌++◌}
-use Prim.Native.Nat.{ℕ, ◌+◌, ◌-◌, ◌≤◌, ◌<◌}
-use native.Mathlib.Omega.{arith}
-use lib.ListN.{length, get_or, take, drop, length-set}
-use borrow.Author.Rules.{rules}
-use Rattle.model.specs.Columns.{entry_of, ledger_of}
-use Rattle.history.specs.History.{is_kept, suggested}
-use Rattle.history.proofs.Kept.{kept_row, left-row, kept-end, Turn, kept-turn, kept-all}
+use mathlib.Core.Path.{◌≡◌}
+use mathlib.Core.List.{◌++◌}
+use Prim.Native.Nat.{◌-◌, ◌≤◌}
+use lib.ListN.{length, take, drop}
+use Rattle.model.specs.Columns.{ledger_of}
+use Rattle.history.specs.History.{suggested}
 use Rattle.history.proofs.fill_kept.Given as goal
 
 abbrev pub invariant-loop-row : goal.invariant-loop-row

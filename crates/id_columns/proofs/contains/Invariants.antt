@@ -1,10 +1,8 @@
 -- `id_columns::contains` meets its contract: the whole column has the id exactly if what is left of it has. Assumes nothing.
-use mathlib.Core.Path.{◌≡◌, sym, ◌∙◌}
+use mathlib.Core.Path.{◌≡◌}
 use Prim.Native.Nat.{◌-◌, ◌≤◌}
 use lib.ListN.{length, drop}
-use borrow.Author.Rules.{rules}
 use Rattle.id_columns.specs.Ids.{has}
-use Rattle.id_columns.proofs.Blocks.{block-found, block-passed, rest-is}
 use Rattle.id_columns.proofs.contains.Given as goal
 
 abbrev pub invariant-loop-i : goal.invariant-loop-i

@@ -1,10 +1,5 @@
 -- `id_columns::first_place` meets its contract: nothing before the place is the id. Assumes nothing.
-use mathlib.Core.Path.{◌≡◌}
-use mathlib.Core.Bool.{false}
-use Prim.Native.Nat.{◌-◌, ◌≤◌}
-use lib.ListN.{length, take}
 use borrow.Author.Rules.{rules}
-use Rattle.id_columns.specs.Ids.{has}
 use Rattle.id_columns.proofs.Blocks.{passed-more, place_found, place_none}
 use Rattle.id_columns.proofs.first_place.Goals as goal
 

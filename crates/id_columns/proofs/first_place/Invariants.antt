@@ -3,9 +3,7 @@ use mathlib.Core.Path.{◌≡◌}
 use mathlib.Core.Bool.{false}
 use Prim.Native.Nat.{◌-◌, ◌≤◌}
 use lib.ListN.{length, take}
-use borrow.Author.Rules.{rules}
 use Rattle.id_columns.specs.Ids.{has}
-use Rattle.id_columns.proofs.Blocks.{passed-more, place_found, place_none}
 use Rattle.id_columns.proofs.first_place.Given as goal
 
 abbrev pub invariant-loop-place : goal.invariant-loop-place

@@ -1,8 +1,4 @@
 -- `id_columns::skip` meets its contract: no block that was passed has the id. Assumes nothing.
-use mathlib.Core.Path.{◌≡◌}
-use mathlib.Core.Bool.{false}
-use Prim.Native.Nat.{◌-◌, ◌≤◌}
-use lib.ListN.{length, take}
 use borrow.Author.Rules.{rules}
 use Rattle.id_columns.specs.Ids.{has}
 use Rattle.id_columns.proofs.Blocks.{block-skipped}
@@ -14,6 +10,4 @@ loop-at-init c = search rules
 
 pub loop-at-preserved : goal.loop-at-preserved
 loop-at-preserved c =
-    
-    
     (search rules, block-skipped c.args.column.now c.args.id c.loop-at.at 32 c.any_is.result c.any_is.ensures c.if-any_is.false c.loop-at.invariant.1)

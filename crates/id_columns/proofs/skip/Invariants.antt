@@ -3,9 +3,7 @@ use mathlib.Core.Path.{◌≡◌}
 use mathlib.Core.Bool.{false}
 use Prim.Native.Nat.{◌-◌, ◌≤◌}
 use lib.ListN.{length, take}
-use borrow.Author.Rules.{rules}
 use Rattle.id_columns.specs.Ids.{has}
-use Rattle.id_columns.proofs.Blocks.{block-skipped}
 use Rattle.id_columns.proofs.skip.Given as goal
 
 abbrev pub invariant-loop-at : goal.invariant-loop-at

@@ -1,6 +1,5 @@
 -- `ids_by_state::acknowledged` meets its contract: of the states only acknowledged has a code of at least 2. Assumes nothing.
 use mathlib.Core.Path.{◌∙◌}
-use borrow.Author.Rules.{rules}
 use Rattle.ids_by_state.proofs.Asked.{as-acknowledged}
 use Rattle.ids_by_state.proofs.acknowledged.Goals as goal
 

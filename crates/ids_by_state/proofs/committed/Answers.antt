@@ -1,6 +1,5 @@
 -- `ids_by_state::committed` meets its contract: a state is not attempted exactly if its code is at least 1. Assumes nothing.
 use mathlib.Core.Path.{◌∙◌}
-use borrow.Author.Rules.{rules}
 use Rattle.ids_by_state.proofs.Asked.{as-committed}
 use Rattle.ids_by_state.proofs.committed.Goals as goal
 

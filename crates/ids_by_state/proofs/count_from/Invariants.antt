@@ -1,12 +1,8 @@
 -- `ids_by_state::count_from` meets its contract: what is counted and what is still to be counted make up the whole. Assumes nothing.
-use mathlib.Core.Path.{◌≡◌, ap}
-use mathlib.Core.Logic.{⊎_elim}
-use Prim.Native.Nat.{◌+◌, ◌-◌, ◌≤◌, ◌<◌}
-use native.Mathlib.Omega.{arith}
+use mathlib.Core.Path.{◌≡◌}
+use Prim.Native.Nat.{◌+◌, ◌-◌, ◌≤◌}
 use lib.ListN.{length, drop}
-use borrow.Author.Rules.{rules}
 use Rattle.model.specs.Scans.{ids_from}
-use Rattle.model.proofs.Rows.{from-picked, from-left, from_end}
 use Rattle.ids_by_state.proofs.count_from.Given as goal
 
 abbrev pub invariant-loop-i : goal.invariant-loop-i

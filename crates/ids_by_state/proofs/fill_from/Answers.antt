@@ -1,17 +1,14 @@
 -- `ids_by_state::fill_from` meets its contract: n ids are written over the column's front, and the rows from `row` on have the others.
 -- Assumes nothing.
-use mathlib.Core.Path.{◌≡◌, ◌∙◌}
-use mathlib.Core.Logic.{⊎_elim}
-use mathlib.Core.List.{◌++◌}
-use Prim.Native.Nat.{◌-◌, ◌≤◌, ◌<◌}
+use mathlib.Core.Path.{◌∙◌}
+use Prim.Native.Nat.{◌≤◌, ◌<◌}
 use native.Mathlib.Omega.{arith}
-use lib.ListN.{length, get_or, take, drop, length-set}
+use lib.ListN.{length, get_or, length-set}
 use borrow.Author.Rules.{rules}
-use Rattle.model.specs.Scans.{ids_from}
 use Rattle.model.proofs.Rows.{from-left}
 use Rattle.ids_by_state.proofs.Fills.{Turn, fill-turn, fill_end}
 use Rattle.ids_by_state.proofs.fill_from.Goals as goal
-use Rattle.ids_by_state.proofs.fill_from.Goals.{At-loop-row}
+use Rattle.ids_by_state.proofs.fill_from.Goals.{At-loop-row, then-least-states, else-least-states}
 
 -- a turn in which an id is written
 turn : (c : goal.At-loop-row) → c.loop-row.row < length c.args.ids.now → c.args.least ≤ get_or c.args.states.now c.loop-row.row 0
@@ -21,35 +18,30 @@ turn c h t = fill-turn c.args.least c.args.ids.now c.args.states.now c.args.colu
 
 pub offset_bounds-column-n : goal.offset_bounds-column-n
 offset_bounds-column-n c =
-    
     let b : c.loop-row.n < length c.loop-row.column = omega (arith, (turn (goal.at.offset_bounds-column-n c).At-loop-row (omega arith) c.if-least-states.true).below) in
     search rules
 
 pub bounds-column-n : goal.bounds-column-n
 bounds-column-n c =
-    
     omega (arith, (turn (goal.at.bounds-column-n c).At-loop-row (omega arith) c.if-least-states.true).below)
 
 pub overflow_add-n : goal.overflow_add-n
 overflow_add-n c =
-    
     omega (arith, (turn (goal.at.overflow_add-n c).At-loop-row (omega arith) c.if-least-states.true).below)
 
 pub loop-row-preserved : goal.loop-row-preserved
 loop-row-preserved c =
-    
     let h : c.loop-row.row < length c.args.ids.now = omega arith in
-    ⊎_elim
-    (λ w.
-    let u = turn (goal.at.loop-row-preserved c).At-loop-row h w.0.taken in
-    rw (w.2, w.3) (omega arith, omega (arith, u.below), simp length-set c.loop-row.invariant.2, u.stored, u.after))
-    (λ w.
-    let r = from-left c.args.least c.args.ids.now c.args.states.now c.loop-row.row c.requires.0 h w.0.left in
-    rw (w.1, w.2) (omega arith, c.loop-row.invariant.1, c.loop-row.invariant.2, c.loop-row.invariant.3, c.loop-row.invariant.4 ∙ r))
-    c.if-least-states.branch
+    elim c.if-least-states.branch [
+      | then-least-states w ↦
+          let u = turn (goal.at.loop-row-preserved c).At-loop-row h w.if-least-states.true in
+          rw (w.column-is, w.n-is) (omega arith, omega (arith, u.below), simp length-set c.loop-row.invariant.2, u.stored, u.after)
+      | else-least-states w ↦
+          let r = from-left c.args.least c.args.ids.now c.args.states.now c.loop-row.row c.requires.0 h w.if-least-states.false in
+          rw (w.column-is, w.n-is) (omega arith, c.loop-row.invariant.1, c.loop-row.invariant.2, c.loop-row.invariant.3, c.loop-row.invariant.4 ∙ r)
+    ]
 
 pub returns : goal.returns
 returns c =
-    
     fill_end c.args.least c.args.ids.now c.args.states.now c.args.column.now c.loop-row.column c.loop-row.n c.loop-row.row
     c.requires.0 c.requires.1 c.loop-row.invariant.3 c.loop-row.invariant.4 (omega arith) c.loop-row.invariant.1

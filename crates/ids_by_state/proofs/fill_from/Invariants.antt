@@ -1,15 +1,10 @@
 -- `ids_by_state::fill_from` meets its contract: n ids are written over the column's front, and the rows from `row` on have the others.
 -- Assumes nothing.
-use mathlib.Core.Path.{◌≡◌, ◌∙◌}
-use mathlib.Core.Logic.{⊎_elim}
+use mathlib.Core.Path.{◌≡◌}
 use mathlib.Core.List.{◌++◌}
-use Prim.Native.Nat.{◌-◌, ◌≤◌, ◌<◌}
-use native.Mathlib.Omega.{arith}
-use lib.ListN.{length, get_or, take, drop, length-set}
-use borrow.Author.Rules.{rules}
+use Prim.Native.Nat.{◌-◌, ◌≤◌}
+use lib.ListN.{length, take, drop}
 use Rattle.model.specs.Scans.{ids_from}
-use Rattle.model.proofs.Rows.{from-left}
-use Rattle.ids_by_state.proofs.Fills.{Turn, fill-turn, fill_end}
 use Rattle.ids_by_state.proofs.fill_from.Given as goal
 
 abbrev pub invariant-loop-row : goal.invariant-loop-row

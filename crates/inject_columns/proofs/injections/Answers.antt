@@ -1,6 +1,5 @@
 -- `inject_columns::injections` meets its contract: the number that refuses, too few rows, or every point written from the first row on.
 -- Assumes nothing.
-use borrow.Author.Rules.{rules}
 use Rattle.inject_columns.proofs.Listings.{write-refused, write-sound, write-short, write-room, write_done}
 use Rattle.inject_columns.proofs.injections.Goals as goal
 
@@ -18,6 +17,4 @@ returns-in-NotCounted c = write-refused _ _ _ _ _ _ c.count_beside-counted.ensur
 
 pub returns-else-room-points : goal.returns-else-room-points
 returns-else-room-points c =
-    
-    
     write_done _ _ _ _ _ _ c.count_beside-counted.ensures _ c.in-Points.is c.if-room-points.false _ _ c.write_all-rows.ensures

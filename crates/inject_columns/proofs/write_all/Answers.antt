@@ -1,7 +1,6 @@
 -- `inject_columns::write_all` meets its contract: the opening point with the power losses, and then the others. Assumes nothing.
 use mathlib.Core.Path.{◌≡◌}
 use mathlib.Core.List.{List, ◌++◌}
-use borrow.Author.Rules.{rules}
 use Rattle.inject.specs.declared.Injection.{Injection}
 use Rattle.inject.specs.declared.Interruption.TheVariants.{PowerLoss}
 use Rattle.inject.specs.Answers.{points_of}
@@ -29,13 +28,8 @@ write_part-lost-requires c = (c.requires.0, room-first 0 _ (lost (goal.at.write_
 
 pub write_later-requires : goal.write_later-requires
 write_later-requires c =
-    
-    
     (c.requires.0, room-second 0 _ (lost (goal.at.write_later-requires c).Start) (later (goal.at.write_later-requires c).Start) (two (goal.at.write_later-requires c).Start) _ (from_first (all (goal.at.write_later-requires c).Start) _ c.requires.1) _ _ c.write_part-lost.ensures)
 
 pub returns : goal.returns
 returns c =
-    
-    
-    
     both-rows 0 _ (lost (goal.at.returns c).Start) (later (goal.at.returns c).Start) (two (goal.at.returns c).Start) _ (from_first (all (goal.at.returns c).Start) _ c.requires.1) _ _ c.write_part-lost.ensures _ _ c.write_later.ensures

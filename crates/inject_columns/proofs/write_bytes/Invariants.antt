@@ -1,14 +1,8 @@
 -- `inject_columns::write_bytes` meets its contract. The invariant: the first `done` byte points are stored, up to `next`. Assumes nothing.
-use mathlib.Core.Path.{◌≡◌, sym}
+use mathlib.Core.Path.{◌≡◌}
 use Prim.Native.Nat.{◌+◌, ◌-◌, ◌≤◌}
-use native.Mathlib.Nat.{add-zero}
-use native.Mathlib.Omega.{arith}
-use borrow.Author.Rules.{rules}
 use Rattle.inject_columns.specs.Answers.{columns_of}
-use Rattle.inject.specs.Steps.{steps}
 use Rattle.inject_columns.specs.Steps.{laid_from, bytes_at, rows}
-use Rattle.inject.proofs.Spans.{step_fits}
-use Rattle.inject_columns.proofs.Rows.{no_rows, byte-rows, kept, kept-room}
 use Rattle.inject_columns.proofs.write_bytes.Given as goal
 
 abbrev pub invariant-loop-done : goal.invariant-loop-done

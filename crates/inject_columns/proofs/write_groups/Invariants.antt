@@ -1,17 +1,14 @@
 -- `inject_columns::write_groups` meets its contract. The invariant: the points from row `i` on, laid from `next` on what the columns hold, are the
 -- whole laid on what they held. Assumes nothing.
-use mathlib.Core.Path.{◌≡◌, refl, ◌∙◌}
+use mathlib.Core.Path.{◌≡◌}
 use Prim.Native.Nat.{◌-◌, ◌≤◌}
-use native.Mathlib.Omega.{arith}
 use lib.ListN.{length}
-use borrow.Author.Rules.{rules}
 use Rattle.inject.specs.Ops.{ops_of}
 use Rattle.inject.specs.Points.{under}
 use Rattle.inject_columns.specs.Answers.{columns_of}
 use Rattle.inject_columns.specs.Steps.{laid_from}
 use Rattle.inject.proofs.Rests.{rest}
-use Rattle.inject_columns.proofs.Walks.{walk-room, walk_more, walk_end}
-use Rattle.inject_columns.proofs.Rows.{Kept, kept-all, kept, kept_trans}
+use Rattle.inject_columns.proofs.Rows.{Kept}
 use Rattle.inject_columns.proofs.write_groups.Given as goal
 
 abbrev pub invariant-loop-i : goal.invariant-loop-i

@@ -1,5 +1,4 @@
 -- `inject_columns::write_point` meets its contract: the four stores are one row. Assumes nothing.
-use borrow.Author.Rules.{rules}
 use Rattle.inject_columns.specs.Steps.{laid}
 use Rattle.inject_columns.proofs.write_point.Goals as goal
 

@@ -1,14 +1,10 @@
 -- `inject_columns::write_same` meets its contract. The invariant: `done` rows of the point are stored, up to `next`. Assumes nothing.
-use mathlib.Core.Path.{◌≡◌, sym}
+use mathlib.Core.Path.{◌≡◌}
 use Prim.Native.Nat.{◌+◌, ◌-◌, ◌≤◌}
-use native.Mathlib.Omega.{arith}
-use native.Mathlib.Nat.{add-zero}
 use lib.ListN.{replicate}
-use borrow.Author.Rules.{rules}
 use Rattle.inject.specs.Points.{point}
 use Rattle.inject_columns.specs.Answers.{columns_of}
 use Rattle.inject_columns.specs.Steps.{laid_from, rows}
-use Rattle.inject_columns.proofs.Rows.{no_rows, same_rows, kept, kept-room}
 use Rattle.inject_columns.proofs.write_same.Given as goal
 
 abbrev pub invariant-loop-done : goal.invariant-loop-done

@@ -1,12 +1,8 @@
 -- `ledger::begins` meets its contract: what is counted and what is still to be counted make up the whole. Assumes nothing.
 use mathlib.Core.Path.{◌≡◌}
-use mathlib.Core.Logic.{⊎_elim}
-use Prim.Native.Nat.{suc, ◌+◌, ◌-◌, ◌≤◌, ◌<◌}
-use native.Mathlib.Omega.{arith}
+use Prim.Native.Nat.{◌+◌, ◌-◌, ◌≤◌}
 use lib.ListN.{length, drop}
 use Rattle.ledger.specs.Scans.{begins}
-use Rattle.ledger.proofs.Scanning.{begins-yes, begins-no, begins-end}
-use borrow.Author.Rules.{rules}
 use Rattle.ledger.proofs.begins.Given as goal
 
 abbrev pub invariant-loop-i : goal.invariant-loop-i

@@ -1,12 +1,9 @@
 -- `ledger::fill` meets its contract: what is left to be entered, entered here, gives what all of it gives at the start. Assumes nothing.
-use mathlib.Core.Path.{◌≡◌, sym, ◌∙◌}
-use Prim.Native.Nat.{◌-◌, ◌≤◌, ◌<◌}
-use native.Mathlib.Omega.{arith}
+use mathlib.Core.Path.{◌≡◌}
+use Prim.Native.Nat.{◌-◌, ◌≤◌}
 use lib.ListN.{length, drop}
 use Rattle.ledger.specs.Ledger.{entered_of}
 use Rattle.ledger.specs.Scans.{filled, fill_from}
-use Rattle.ledger.proofs.Storing.{fill-next, fill_end}
-use borrow.Author.Rules.{rules}
 use Rattle.ledger.proofs.fill.Given as goal
 
 abbrev pub invariant-loop-i : goal.invariant-loop-i

@@ -6,7 +6,6 @@ use lib.Seq.{length-take-le}
 use Rattle.session.specs.Log.{Log, log_of, Marks, marks_of}
 use Rattle.ledger.specs.Ledger.{Entered, entered_of}
 use Rattle.ledger.proofs.Whole.{Sound, refused-call, sound, derived-call}
-use borrow.Author.Rules.{rules}
 use Rattle.ledger.proofs.ledger.Goals as goal
 use Rattle.ledger.proofs.ledger.Goals.{Else-refused-ne0, Start}
 
@@ -22,13 +21,12 @@ entered c = entered_of c.args.ids.now c.args.states.now c.args.torn.now
 
 -- what is known of it where nothing refuses
 held : (c : goal.Else-refused-ne0) → Sound c.args.counters (length c.args.media.now) (length c.args.copy.now) (log (goal.at.Else-refused-ne0 c).Start) (marks (goal.at.Else-refused-ne0 c).Start) (entered (goal.at.Else-refused-ne0 c).Start)
-held c = 
+held c =
     sound c.args.told c.args.counters c.args.media.now c.args.copy.now (log (goal.at.Else-refused-ne0 c).Start) (marks (goal.at.Else-refused-ne0 c).Start) (entered (goal.at.Else-refused-ne0 c).Start) _ _ _ c.log_uneven-log.ensures c.marks_uneven-marks.ensures c.entries_uneven-entries.ensures _ _ _ c.length_refusal-lengths.ensures c.code_refusal-contents.ensures
     c.first_of-refused.ensures c.if-refused-ne0.false
 
 pub returns-then-refused-ne0 : goal.returns-then-refused-ne0
 returns-then-refused-ne0 c =
-    
     refused-call c.args.told c.args.counters c.args.media.now c.args.copy.now (log (goal.at.returns-then-refused-ne0 c).Start) (marks (goal.at.returns-then-refused-ne0 c).Start) (entered (goal.at.returns-then-refused-ne0 c).Start) _ _ _ c.log_uneven-log.ensures c.marks_uneven-marks.ensures c.entries_uneven-entries.ensures _ _ _ c.length_refusal-lengths.ensures c.code_refusal-contents.ensures
     c.first_of-refused.ensures c.if-refused-ne0.true
 
@@ -63,7 +61,6 @@ derive-requires c =
 
 pub returns : goal.returns
 returns c =
-    
     derived-call c.args.told c.args.counters c.args.media.now c.args.copy.now (log (goal.at.returns c).Start) (marks (goal.at.returns c).Start) (entered (goal.at.returns c).Start) _ _ _ c.log_uneven-log.ensures c.marks_uneven-marks.ensures c.entries_uneven-entries.ensures _ _ _ c.length_refusal-lengths.ensures c.code_refusal-contents.ensures
     c.first_of-refused.ensures c.if-refused-ne0.false
     _ c.outstanding.ensures _ c.last_barrier.ensures _ c.derive.ensures

@@ -3,7 +3,6 @@ use mathlib.Core.Path.{sym, ◌∙◌}
 use Rattle.basics.specs.Tests.{refuse_if, first_of}
 use Rattle.basics.proofs.Tests.{first_of-one}
 use Rattle.ledger.specs.Scans.{length_number}
-use borrow.Author.Rules.{rules}
 use Rattle.ledger.proofs.length_refusal.Goals as goal
 
 pub returns-then-uneven : goal.returns-then-uneven

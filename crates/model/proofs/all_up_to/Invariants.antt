@@ -1,13 +1,9 @@
 -- `model::all_up_to` meets its contract: the flag and the codes not yet read say together what the whole column says. Assumes nothing.
-use mathlib.Core.Path.{◌≡◌, sym, ap, ◌∙◌}
-use mathlib.Core.Bool.{Bool, ◌&&◌}
-use mathlib.Core.Logic.{⊎_elim}
-use Prim.Native.Nat.{◌+◌, ◌-◌, ◌≤◌, ◌<◌}
-use native.Mathlib.Omega.{arith}
+use mathlib.Core.Path.{◌≡◌}
+use mathlib.Core.Bool.{◌&&◌}
+use Prim.Native.Nat.{◌-◌, ◌≤◌}
 use lib.ListN.{length, drop}
-use borrow.Author.Rules.{rules}
 use Rattle.model.specs.Columns.{all_up_to}
-use Rattle.model.proofs.Codes.{codes-over, codes-next, codes-end}
 use Rattle.model.proofs.all_up_to.Given as goal
 
 abbrev pub invariant-loop-i : goal.invariant-loop-i

@@ -3,17 +3,11 @@ use borrow.Author.Rules.{rules}
 use Rattle.oracle.proofs.Pass.{passed}
 use Rattle.oracle.proofs.fault_of.Goals as goal
 
-pub first_place-place-requires : goal.first_place-place-requires
-first_place-place-requires c = search (rules, passed)
-
 pub bounds-states-i : goal.bounds-states-i
 bounds-states-i c = search (rules, passed)
 
 pub returns-then-states-i-eq0 : goal.returns-then-states-i-eq0
 returns-then-states-i-eq0 c = search (rules, passed)
-
-pub bounds-torn-i : goal.bounds-torn-i
-bounds-torn-i c = search (rules, passed)
 
 pub returns-then-torn-i-eq1 : goal.returns-then-torn-i-eq1
 returns-then-torn-i-eq1 c = search (rules, passed)

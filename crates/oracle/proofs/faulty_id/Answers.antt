@@ -3,12 +3,6 @@ use borrow.Author.Rules.{rules}
 use Rattle.oracle.proofs.Pass.{passed}
 use Rattle.oracle.proofs.faulty_id.Goals as goal
 
-pub fault_of-fault-requires : goal.fault_of-fault-requires
-fault_of-fault-requires c = search (rules, passed)
-
-pub number-requires : goal.number-requires
-number-requires c = search (rules, passed)
-
 pub returns-then-number-eq0 : goal.returns-then-number-eq0
 returns-then-number-eq0 c = search (rules, passed)
 

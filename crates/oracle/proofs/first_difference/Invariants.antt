@@ -1,8 +1,7 @@
 -- `oracle::first_difference` meets its contract: up to `position` the history is the committed ids of the rows before i. Assumes nothing.
 use Prim.Native.Nat.{◌≤◌, ◌-◌}
 use lib.ListN.{length}
-use borrow.Author.Rules.{rules}
-use Rattle.oracle.proofs.Pass.{passed, DifferFrom}
+use Rattle.oracle.proofs.Pass.{DifferFrom}
 use Rattle.oracle.proofs.first_difference.Given as goal
 
 abbrev pub invariant-loop-i : goal.invariant-loop-i

@@ -1,8 +1,7 @@
 -- `oracle::first_lost` meets its contract: no acknowledged id of the rows before i is lost. Assumes nothing.
 use Prim.Native.Nat.{◌≤◌, ◌-◌}
 use lib.ListN.{length}
-use borrow.Author.Rules.{rules}
-use Rattle.oracle.proofs.Pass.{passed, LostFrom}
+use Rattle.oracle.proofs.Pass.{LostFrom}
 use Rattle.oracle.proofs.first_lost.Given as goal
 
 abbrev pub invariant-loop-i : goal.invariant-loop-i

@@ -3,9 +3,7 @@ use Prim.Native.Nat.{◌≤◌, ◌-◌}
 use mathlib.Core.Path.{◌≡◌}
 use mathlib.Core.List.{[]}
 use lib.ListN.{length, take, drop}
-use borrow.Author.Rules.{rules}
 use Rattle.oracle.specs.Verdict.{seen_before}
-use Rattle.oracle.proofs.Pass.{passed}
 use Rattle.oracle.proofs.first_repeat.Given as goal
 
 abbrev pub invariant-loop-i : goal.invariant-loop-i

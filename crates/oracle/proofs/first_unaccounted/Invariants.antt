@@ -2,10 +2,8 @@
 use Prim.Native.Nat.{◌≤◌, ◌-◌}
 use mathlib.Core.Path.{◌≡◌}
 use lib.ListN.{length, drop}
-use borrow.Author.Rules.{rules}
 use Rattle.oracle.specs.Verdict.{first_lost}
 use Rattle.oracle.specs.declared.Verdict.TheVariants.{DispatchedWithoutADurableIntent}
-use Rattle.oracle.proofs.Pass.{passed}
 use Rattle.oracle.proofs.first_unaccounted.Given as goal
 
 abbrev pub invariant-loop-i : goal.invariant-loop-i

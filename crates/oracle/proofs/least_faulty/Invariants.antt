@@ -1,9 +1,8 @@
 -- `oracle::least_faulty` meets its contract: the least so far and that of the rest make up the least of the whole history. Assumes nothing.
 use Prim.Native.Nat.{◌≤◌, ◌-◌}
 use lib.ListN.{length}
-use borrow.Author.Rules.{rules}
 use Rattle.model.specs.Columns.{ledger_of}
-use Rattle.oracle.proofs.Pass.{passed, LeastFrom}
+use Rattle.oracle.proofs.Pass.{LeastFrom}
 use Rattle.oracle.proofs.least_faulty.Given as goal
 
 abbrev pub invariant-loop-i : goal.invariant-loop-i

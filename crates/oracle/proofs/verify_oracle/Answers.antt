@@ -3,9 +3,6 @@ use borrow.Author.Rules.{rules}
 use Rattle.oracle.proofs.Say.{said}
 use Rattle.oracle.proofs.verify_oracle.Goals as goal
 
-pub refusal-requires : goal.refusal-requires
-refusal-requires c = search (rules, said)
-
 pub returns-then-refusal-ne0 : goal.returns-then-refusal-ne0
 returns-then-refusal-ne0 c = search (rules, said)
 

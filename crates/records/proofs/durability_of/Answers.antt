@@ -1,20 +1,19 @@
 -- `records::durability_of` meets its contract, test by test. Assumes nothing.
-use borrow.Author.Tests.{not-true, not-false}
 use Rattle.records.specs.Records.{judged}
 use Rattle.records.proofs.durability_of.Goals as goal
 
 pub returns-then-not-changed : goal.returns-then-not-changed
 unfolding judged
-returns-then-not-changed c = rw (not-true c.args.changed c.if-not-changed.true-raw)
+returns-then-not-changed c = rw c.if-not-changed.true
 
 pub returns-then-withheld : goal.returns-then-withheld
 unfolding judged
-returns-then-withheld c = rw (not-false c.args.changed c.if-not-changed.false-raw, c.if-withheld.true)
+returns-then-withheld c = rw (c.if-not-changed.false, c.if-withheld.true)
 
 pub returns-then-followed : goal.returns-then-followed
 unfolding judged
-returns-then-followed c = rw (not-false c.args.changed c.if-not-changed.false-raw, c.if-withheld.false, c.if-followed.true)
+returns-then-followed c = rw (c.if-not-changed.false, c.if-withheld.false, c.if-followed.true)
 
 pub returns-else-followed : goal.returns-else-followed
 unfolding judged
-returns-else-followed c = rw (not-false c.args.changed c.if-not-changed.false-raw, c.if-withheld.false, c.if-followed.false)
+returns-else-followed c = rw (c.if-not-changed.false, c.if-withheld.false, c.if-followed.false)

@@ -1,12 +1,7 @@
 -- `records::last_barrier` meets its contract: the last one among the operations passed. Assumes nothing.
-use mathlib.Core.Path.{◌≡◌, sym, ◌∙◌}
-use mathlib.Core.Logic.{⊎_elim}
-use Prim.Native.Nat.{◌-◌, ◌≤◌, ◌<◌}
-use native.Mathlib.Omega.{arith}
-use lib.ListN.{length}
-use Rattle.records.proofs.Scanning.{barrier_below, barrier-yes, barrier-no, barrier-end}
-use Rattle.records.specs.Columns.{last_place}
-use borrow.Author.Rules.{rules}
+use mathlib.Core.Path.{◌≡◌}
+use Prim.Native.Nat.{◌-◌}
+use Rattle.records.proofs.Scanning.{barrier_below}
 use Rattle.records.proofs.last_barrier.Given as goal
 
 abbrev pub invariant-loop-i : goal.invariant-loop-i

@@ -1,16 +1,9 @@
 -- `records::scan` meets its contract: the flag and the place speak of the operations passed. Assumes nothing.
-use mathlib.Core.Path.{◌≡◌, sym, ap, ◌∙◌}
-use mathlib.Core.Logic.{⊎_elim}
-use mathlib.Core.Bool.{Bool, ◌||◌}
-use Prim.Native.Nat.{◌-◌, ◌≤◌, ◌<◌}
-use native.Mathlib.Omega.{arith}
-use lib.Dec.{eqb}
-use lib.ListN.{length, take, get_or}
-use lib.Seq.{take_all}
+use mathlib.Core.Path.{◌≡◌}
+use Prim.Native.Nat.{◌-◌, ◌≤◌}
+use lib.ListN.{length, take}
 use Rattle.records.specs.Records.{any}
 use Rattle.records.specs.Columns.{last_place, is_one, is_write}
-use Rattle.records.proofs.Scanning.{any_next, written-yes, written-no}
-use borrow.Author.Rules.{rules}
 use Rattle.records.proofs.scan.Given as goal
 
 abbrev pub invariant-loop-i : goal.invariant-loop-i

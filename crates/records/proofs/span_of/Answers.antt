@@ -1,7 +1,6 @@
 -- `records::span_of` meets its contract: what there is of the operations from a mark to the next. Assumes nothing.
 use native.Mathlib.Omega.{arith}
 use Rattle.records.proofs.Clips.{span-some, span_none}
-use borrow.Author.Rules.{rules}
 use Rattle.records.proofs.span_of.Goals as goal
 
 pub returns-then-start-stop : goal.returns-then-start-stop

@@ -1,17 +1,10 @@
 -- `script::alone_line` meets its contract: the letter is `N` or `S`, or no line of one field has it. Assumes nothing.
 use mathlib.Core.Path.{sym, ◌∙◌}
-use borrow.Author.Rules.{rules}
-use Rattle.script.proofs.Letters.{letters, alone-small, alone-row, alone-faulty}
+use Rattle.script.proofs.Letters.{alone-row, alone-faulty}
 use Rattle.script.proofs.alone_line.Goals as goal
 
 pub returns-then-other : goal.returns-then-other
 returns-then-other c = alone-faulty _ _ _ c.requires (sym c.other_letter-other.ensures ∙ c.if-other.true)
-
-pub overflow_sub-code : goal.overflow_sub-code
-overflow_sub-code c = alone-small _ (sym c.other_letter-other.ensures ∙ c.if-other.false)
-
-pub overflow_add-next : goal.overflow_add-next
-overflow_add-next c = search (rules, letters)
 
 pub returns : goal.returns
 returns c = alone-row _ _ _ c.requires (sym c.other_letter-other.ensures ∙ c.if-other.false)

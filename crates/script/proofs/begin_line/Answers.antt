@@ -3,12 +3,6 @@ use borrow.Author.Rules.{rules}
 use Rattle.script.proofs.Letters.{letters}
 use Rattle.script.proofs.begin_line.Goals as goal
 
-pub overflow_add-from : goal.overflow_add-from
-overflow_add-from c = search (rules, letters)
-
-pub read_number-id_read-requires : goal.read_number-id_read-requires
-read_number-id_read-requires c = search (rules, letters)
-
 pub returns-in_default : goal.returns-in_default
 returns-in_default c = search (rules, letters)
 

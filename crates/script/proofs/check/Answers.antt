@@ -6,20 +6,11 @@ use Rattle.script.proofs.check.Goals as goal
 pub returns-then-text-gt-MOST_TEXT : goal.returns-then-text-gt-MOST_TEXT
 returns-then-text-gt-MOST_TEXT c = search (rules, passes)
 
-pub read_head-first-requires : goal.read_head-first-requires
-read_head-first-requires c = search (rules, passes)
-
 pub returns-in_default : goal.returns-in_default
 returns-in_default c = search (rules, passes)
 
-pub head_refusal-refusal-requires : goal.head_refusal-refusal-requires
-head_refusal-refusal-requires c = search (rules, passes)
-
 pub returns-then-refusal-ne0 : goal.returns-then-refusal-ne0
 returns-then-refusal-ne0 c = search (rules, passes)
-
-pub check_lines-checked-requires : goal.check_lines-checked-requires
-check_lines-checked-requires c = search (rules, passes)
 
 pub returns-in-Fault : goal.returns-in-Fault
 returns-in-Fault c = search (rules, passes)

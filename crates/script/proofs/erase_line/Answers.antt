@@ -3,17 +3,8 @@ use borrow.Author.Rules.{rules}
 use Rattle.script.proofs.Letters.{letters}
 use Rattle.script.proofs.erase_line.Goals as goal
 
-pub overflow_add-from : goal.overflow_add-from
-overflow_add-from c = search (rules, letters)
-
-pub read_number-offset_read-requires : goal.read_number-offset_read-requires
-read_number-offset_read-requires c = search (rules, letters)
-
 pub returns-in_default : goal.returns-in_default
 returns-in_default c = search (rules, letters)
-
-pub read_number-length_read-requires : goal.read_number-length_read-requires
-read_number-length_read-requires c = search (rules, letters)
 
 pub returns-in_default-length_read : goal.returns-in_default-length_read
 returns-in_default-length_read c = search (rules, letters)

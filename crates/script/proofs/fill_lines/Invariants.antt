@@ -1,15 +1,12 @@
 -- `script::fill_lines` meets its contract. The loop has stored the first `i` calls, which are those of the lines before `at`, and
 -- their bytes, of which there are `used`. Assumes nothing.
-use native.Mathlib.Omega.{arith}
-use borrow.Author.Rules.{rules}
 use Prim.Native.Nat.{◌-◌, ◌≤◌}
 use lib.ListN.{length, drop}
 use Rattle.text.specs.Lines.{lines_of}
 use Rattle.script.specs.Calls.{read_lines}
 use Rattle.script.specs.Columns.{columns}
 use Rattle.script.specs.Inner.{calls_read}
-use Rattle.script.proofs.Passes.{row-taken}
-use Rattle.script.proofs.Fills.{SameLong, Filling, Roomy, same-long, fill_start, fill_end, fill-faulty, fill-room, fill-same, fill-next}
+use Rattle.script.proofs.Fills.{SameLong, Filling}
 use Rattle.script.proofs.fill_lines.Given as goal
 
 abbrev pub invariant-loop-at : goal.invariant-loop-at

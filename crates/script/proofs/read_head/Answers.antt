@@ -3,32 +3,20 @@ use borrow.Author.Rules.{rules}
 use Rattle.script.proofs.Heads.{heads}
 use Rattle.script.proofs.read_head.Goals as goal
 
-pub read_letter-kind_read-requires : goal.read_letter-kind_read-requires
-read_letter-kind_read-requires c = search (rules, heads)
-
 pub returns-in_default : goal.returns-in_default
 returns-in_default c = search (rules, heads)
 
 pub returns-then-kind-ne71 : goal.returns-then-kind-ne71
 returns-then-kind-ne71 c = search (rules, heads)
 
-pub read_units-units-requires : goal.read_units-units-requires
-read_units-units-requires c = search (rules, heads)
-
 pub returns-in_default-units : goal.returns-in_default-units
 returns-in_default-units c = search (rules, heads)
-
-pub read_letter-rule_read-requires : goal.read_letter-rule_read-requires
-read_letter-rule_read-requires c = search (rules, heads)
 
 pub returns-in_default-rule_read : goal.returns-in_default-rule_read
 returns-in_default-rule_read c = search (rules, heads)
 
 pub returns-then-rule : goal.returns-then-rule
 returns-then-rule c = search (rules, heads)
-
-pub read_letter-mode_read-requires : goal.read_letter-mode_read-requires
-read_letter-mode_read-requires c = search (rules, heads)
 
 pub returns-in_default-mode_read : goal.returns-in_default-mode_read
 returns-in_default-mode_read c = search (rules, heads)

@@ -3,18 +3,6 @@ use borrow.Author.Rules.{rules}
 use Rattle.script.proofs.Rooms.{rooms, read-ready, read_done}
 use Rattle.script.proofs.read_script.Goals as goal
 
-pub check-whole-requires : goal.check-whole-requires
-check-whole-requires c = search (rules, rooms)
-
-pub overflow_cast-calls : goal.overflow_cast-calls
-overflow_cast-calls c = search (rules, rooms)
-
-pub overflow_cast-bytes : goal.overflow_cast-bytes
-overflow_cast-bytes c = search (rules, rooms)
-
-pub room_refusal-number-requires : goal.room_refusal-number-requires
-room_refusal-number-requires c = search (rules, rooms)
-
 pub returns-then-number-ne0 : goal.returns-then-number-ne0
 returns-then-number-ne0 c = search (rules, rooms)
 

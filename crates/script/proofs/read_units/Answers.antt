@@ -3,26 +3,14 @@ use borrow.Author.Rules.{rules}
 use Rattle.script.proofs.Heads.{heads}
 use Rattle.script.proofs.read_units.Goals as goal
 
-pub read_number-capacity_read-requires : goal.read_number-capacity_read-requires
-read_number-capacity_read-requires c = search (rules, heads)
-
 pub returns-in_default : goal.returns-in_default
 returns-in_default c = search (rules, heads)
-
-pub read_number-erase_read-requires : goal.read_number-erase_read-requires
-read_number-erase_read-requires c = search (rules, heads)
 
 pub returns-in_default-erase_read : goal.returns-in_default-erase_read
 returns-in_default-erase_read c = search (rules, heads)
 
-pub read_number-program_read-requires : goal.read_number-program_read-requires
-read_number-program_read-requires c = search (rules, heads)
-
 pub returns-in_default-program_read : goal.returns-in_default-program_read
 returns-in_default-program_read c = search (rules, heads)
-
-pub read_number-read_read-requires : goal.read_number-read_read-requires
-read_number-read_read-requires c = search (rules, heads)
 
 pub returns-in_default-read_read : goal.returns-in_default-read_read
 returns-in_default-read_read c = search (rules, heads)

@@ -6,11 +6,5 @@ use Rattle.script.proofs.store_bytes.Goals as goal
 pub returns-then-free-used : goal.returns-then-free-used
 returns-then-free-used c = search (rules, stores)
 
-pub slice_bounds-decode-count : goal.slice_bounds-decode-count
-slice_bounds-decode-count c = search (rules, stores)
-
-pub decode-requires : goal.decode-requires
-decode-requires c = search (rules, stores)
-
 pub returns : goal.returns
 returns c = search (rules, stores)

@@ -1,5 +1,4 @@
 -- `storage::Geometry::new` meets its contract: it answers what the check of the geometry answered. Assumes nothing.
-use borrow.Author.Rules.{rules}
 use Rattle.storage.proofs.Checks.{described-legal, described-illegal}
 use Rattle.storage.proofs.Geometry.new.Goals as goal
 

@@ -4,8 +4,6 @@ use mathlib.Core.Bool.{true}
 use Prim.Native.Nat.{◌%◌}
 use native.Mathlib.Omega.{arith}
 use lib.Dec.{eqb}
-use borrow.Author.Rules.{rules}
-use borrow.Author.Tests.{not-true, not-false}
 use Rattle.storage.specs.Geometry.{geometry_test}
 use Rattle.storage.proofs.Checks.{passes, span-illegal}
 use Rattle.storage.proofs.Spans.{span-offset, span-length, span-end, span-legal}
@@ -18,10 +16,10 @@ sound c = passes _ _ c.check-checked.ensures c.in_default.is
 
 -- the offset and the length passed theirs
 offset-whole : (c : goal.Else-not-is_multiple) → eqb (c.args.offset % c.args.unit) 0 ≡ true
-offset-whole c = sym c.is_multiple.ensures ∙ not-false _ c.if-not-is_multiple.false-raw
+offset-whole c = sym c.is_multiple.ensures ∙ c.if-not-is_multiple.false
 
 length_whole : (c : goal.Else-not-is_multiple-2) → eqb (c.args.len % c.args.unit) 0 ≡ true
-length_whole c = sym c.is_multiple-2.ensures ∙ not-false _ c.if-not-is_multiple-2.false-raw
+length_whole c = sym c.is_multiple-2.ensures ∙ c.if-not-is_multiple-2.false
 
 pub returns-in-Illegal : goal.returns-in-Illegal
 returns-in-Illegal c = span-illegal _ _ c.check-checked.ensures _ c.in-Illegal.is _ _ _
@@ -30,7 +28,7 @@ pub is_multiple-requires : goal.is_multiple-requires
 is_multiple-requires c = c.requires (sound (goal.at.is_multiple-requires c).In_default)
 
 pub returns-then-not-is_multiple : goal.returns-then-not-is_multiple
-returns-then-not-is_multiple c = rw (span-offset _ _ _ _ (sound (goal.at.returns-then-not-is_multiple c).In_default) (sym c.is_multiple.ensures ∙ not-true _ c.if-not-is_multiple.true-raw))
+returns-then-not-is_multiple c = rw (span-offset _ _ _ _ (sound (goal.at.returns-then-not-is_multiple c).In_default) (sym c.is_multiple.ensures ∙ c.if-not-is_multiple.true))
 
 pub is_multiple-requires-2 : goal.is_multiple-requires-2
 is_multiple-requires-2 c = c.requires (sound (goal.at.is_multiple-requires-2 c).In_default)
@@ -38,7 +36,7 @@ is_multiple-requires-2 c = c.requires (sound (goal.at.is_multiple-requires-2 c).
 pub returns-then-not-is_multiple-2 : goal.returns-then-not-is_multiple-2
 returns-then-not-is_multiple-2 c =
     rw (span-length _ _ _ _ (sound (goal.at.returns-then-not-is_multiple-2 c).In_default) (offset-whole (goal.at.returns-then-not-is_multiple-2 c).Else-not-is_multiple)
-    (sym c.is_multiple-2.ensures ∙ not-true _ c.if-not-is_multiple-2.true-raw))
+    (sym c.is_multiple-2.ensures ∙ c.if-not-is_multiple-2.true))
 
 pub returns-then-end-self : goal.returns-then-end-self
 returns-then-end-self c =

@@ -1,5 +1,4 @@
 -- `storage::Geometry::validate_erase` meets its contract: the erase unit of a geometry that passes has one bit set. Assumes nothing.
-use borrow.Author.Rules.{rules}
 use Rattle.storage.proofs.Checks.{erase-unit}
 use Rattle.storage.proofs.Geometry.validate_erase.Goals as goal
 

@@ -1,5 +1,4 @@
 -- `storage::Geometry::validate_program` meets its contract: the program unit of a geometry that passes has one bit set. Assumes nothing.
-use borrow.Author.Rules.{rules}
 use Rattle.storage.proofs.Checks.{program-unit}
 use Rattle.storage.proofs.Geometry.validate_program.Goals as goal
 

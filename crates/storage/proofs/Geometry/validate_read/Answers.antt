@@ -1,5 +1,4 @@
 -- `storage::Geometry::validate_read` meets its contract: the read unit of a geometry that passes has one bit set. Assumes nothing.
-use borrow.Author.Rules.{rules}
 use Rattle.storage.proofs.Checks.{read-unit}
 use Rattle.storage.proofs.Geometry.validate_read.Goals as goal
 
