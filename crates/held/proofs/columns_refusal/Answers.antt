@@ -1,7 +1,6 @@
 -- `held::columns_refusal` meets its contract: 12 before 13. Assumes nothing.
 use Rattle.held.specs.Held.{Recorded, recorded_of}
 use Rattle.held.proofs.Numbers.{columns-twelve, columns-thirteen, columns-none}
-use borrow.Author.Rules.{rules}
 use Rattle.held.proofs.columns_refusal.Goals as goal
 use Rattle.held.proofs.columns_refusal.Goals.{Start}
 

@@ -1,11 +1,8 @@
 -- `held::next_below` meets its contract: what is skipped from `from` on is what was passed and what is skipped from there. Assumes nothing.
 use mathlib.Core.Path.{◌≡◌}
 use Prim.Native.Nat.{◌+◌, ◌-◌, ◌≤◌}
-use native.Mathlib.Omega.{arith}
 use lib.ListN.{length, drop}
 use Rattle.held.specs.Scans.{skipped}
-use Rattle.held.proofs.Marks.{skip-here, skip-past, skip-out}
-use borrow.Author.Rules.{rules}
 use Rattle.held.proofs.next_below.Given as goal
 
 abbrev pub invariant-loop-i : goal.invariant-loop-i

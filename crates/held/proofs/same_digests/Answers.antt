@@ -1,12 +1,7 @@
 -- `held::same_digests` meets its contract: what is left decides. Assumes nothing.
-use mathlib.Core.Path.{◌≡◌}
-use Prim.Native.Nat.{◌-◌, ◌≤◌}
 use native.Mathlib.Omega.{arith}
-use lib.ListN.{length, drop}
 use lib.Dec.{eqb}
-use Rattle.held.specs.Held.{same}
 use Rattle.held.proofs.Alike.{same-lengths, digests-differ, digests-next, digests-out}
-use borrow.Author.Rules.{rules}
 use Rattle.held.proofs.same_digests.Goals as goal
 
 pub returns-then-digests-digests2 : goal.returns-then-digests-digests2
@@ -14,18 +9,12 @@ returns-then-digests-digests2 c = same-lengths eqb c.args.digests.now c.args.dig
 
 pub returns-then-digests-i : goal.returns-then-digests-i
 returns-then-digests-i c =
-    
-    
     digests-differ c.args.digests.now c.args.digests2.now c.if-digests-digests2.false c.loop-i.i c.loop-i.invariant.1 c.loop-i-test.true c.if-digests-i.true
 
 pub loop-i-preserved : goal.loop-i-preserved
 loop-i-preserved c =
-    
-    
     (omega arith, digests-next c.args.digests.now c.args.digests2.now c.if-digests-digests2.false c.loop-i.i c.loop-i.invariant.1 c.loop-i-test.true c.if-digests-i.false)
 
 pub returns : goal.returns
 returns c =
-    
-    
     digests-out c.args.digests.now c.args.digests2.now c.if-digests-digests2.false c.loop-i.i c.loop-i.invariant.1 c.loop-i-test.false

@@ -1,12 +1,9 @@
 -- `held::same_digests` meets its contract: what is left decides. Assumes nothing.
 use mathlib.Core.Path.{◌≡◌}
 use Prim.Native.Nat.{◌-◌, ◌≤◌}
-use native.Mathlib.Omega.{arith}
 use lib.ListN.{length, drop}
 use lib.Dec.{eqb}
 use Rattle.held.specs.Held.{same}
-use Rattle.held.proofs.Alike.{same-lengths, digests-differ, digests-next, digests-out}
-use borrow.Author.Rules.{rules}
 use Rattle.held.proofs.same_digests.Given as goal
 
 abbrev pub invariant-loop-i : goal.invariant-loop-i

@@ -1,10 +1,7 @@
 -- `held::same_marks` meets its contract: two places, and what is left of both decides. Assumes nothing.
-use Prim.Native.Nat.{◌+◌, ◌-◌, ◌≤◌, ◌<◌}
-use native.Mathlib.Omega.{arith}
+use Prim.Native.Nat.{◌-◌}
 use lib.ListN.{length}
-use Rattle.held.proofs.Alike.{both_below}
-use Rattle.held.proofs.Marks.{Walk, walk_start, walk-differ, walk-next, walk-out, next-from}
-use borrow.Author.Rules.{rules}
+use Rattle.held.proofs.Marks.{Walk}
 use Rattle.held.proofs.same_marks.Given as goal
 
 abbrev pub invariant-loop-i : goal.invariant-loop-i

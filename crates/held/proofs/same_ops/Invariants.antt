@@ -1,12 +1,9 @@
 -- `held::same_ops` meets its contract: what is left decides. Assumes nothing.
 use mathlib.Core.Path.{◌≡◌}
 use Prim.Native.Nat.{◌-◌, ◌≤◌}
-use native.Mathlib.Omega.{arith}
 use lib.ListN.{length, drop}
 use Rattle.inject.specs.Ops.{ops_of}
 use Rattle.held.specs.Held.{same, same_op}
-use Rattle.held.proofs.Alike.{ops-unequal, ops-differ, ops-next, ops-out}
-use borrow.Author.Rules.{rules}
 use Rattle.held.proofs.same_ops.Given as goal
 
 abbrev pub invariant-loop-i : goal.invariant-loop-i

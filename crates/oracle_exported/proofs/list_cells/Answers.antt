@@ -1,6 +1,5 @@
 -- `oracle_exported::list_cells` meets its contract, case by case. Assumes nothing.
 use Rattle.oracle_exported.specs.Cells.{answer_cells, value_cells}
-use borrow.Author.Rules.{rules}
 use Rattle.oracle_exported.proofs.list_cells.Goals as goal
 
 pub returns-in-ListRefused : goal.returns-in-ListRefused

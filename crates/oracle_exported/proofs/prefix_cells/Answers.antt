@@ -1,7 +1,6 @@
 -- `oracle_exported::prefix_cells` meets its contract, with and without an expected id. Assumes nothing.
 use Rattle.oracle.specs.Verdict.{number_of, values_of}
 use Rattle.oracle_exported.specs.Cells.{verdict_cells, value_cells}
-use borrow.Author.Rules.{rules}
 use Rattle.oracle_exported.proofs.prefix_cells.Goals as goal
 
 pub returns-in-NoRecord : goal.returns-in-NoRecord

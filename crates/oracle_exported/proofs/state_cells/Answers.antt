@@ -1,6 +1,5 @@
 -- `oracle_exported::state_cells` meets its contract, case by case. Assumes nothing.
 use Rattle.oracle_exported.specs.Cells.{answer_cells, value_cells}
-use borrow.Author.Rules.{rules}
 use Rattle.oracle_exported.proofs.state_cells.Goals as goal
 
 pub returns-in-StateRefused : goal.returns-in-StateRefused

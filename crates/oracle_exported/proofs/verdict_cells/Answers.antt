@@ -1,7 +1,6 @@
 -- `oracle_exported::verdict_cells` meets its contract, case by case. Assumes nothing.
 use Rattle.oracle.specs.Verdict.{number_of, values_of}
 use Rattle.oracle_exported.specs.Cells.{verdict_cells, value_cells}
-use borrow.Author.Rules.{rules}
 use Rattle.oracle_exported.proofs.verdict_cells.Goals as goal
 
 pub returns-in-Accepted : goal.returns-in-Accepted
@@ -11,9 +10,6 @@ returns-in-Accepted c = rw c.in-Accepted.is
 pub returns-in-DuplicateRecordId : goal.returns-in-DuplicateRecordId
 unfolding verdict_cells value_cells number_of values_of
 returns-in-DuplicateRecordId c = rw c.in-DuplicateRecordId.is
-
-pub returns-in-NotAPrefix : goal.returns-in-NotAPrefix
-returns-in-NotAPrefix c = rw c.in-NotAPrefix.is c.prefix_cells.ensures
 
 pub returns-in-RecoveredWhatWasNeverAttempted : goal.returns-in-RecoveredWhatWasNeverAttempted
 unfolding verdict_cells value_cells number_of values_of
