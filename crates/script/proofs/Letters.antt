@@ -4,7 +4,7 @@ use mathlib.Core.Path.{◌≡◌, refl, ap, ◌∙◌}
 use mathlib.Core.Bool.{Bool, true, false, cond, not, ◌&&◌}
 use mathlib.Core.List.{List, [], ◌∷◌}
 use Prim.Native.Nat.{ℕ, ◌+◌, ◌-◌, ◌*◌, ◌/◌, ◌%◌, ◌≤◌, ◌<◌}
-use native.Mathlib.Nat.{mul-le-mul, mul-pos}
+use native.Mathlib.Nat.{mul-pos}
 use native.Mathlib.Omega.{arith}
 use lib.ListN.{length, get_or, drop, drop_of_length-le}
 use lib.Dec.{eqb}
@@ -39,10 +39,7 @@ opened s from k e h p q =
 
 -- ---- one field: `N` and `S`
 
--- the product is 0 for these two letters alone, and small
-pub product_small : (m n : ℕ) → m % 256 * (n % 256) ≤ 65025
-product_small m n = let a : m % 256 ≤ 255 = omega arith in let b : n % 256 ≤ 255 = omega arith in mul-le-mul a b
-
+-- the product is 0 for these two letters alone
 product-by : (k : ℕ) → k < 256 → (t u : Bool) → eqb k 78 ≡ t → eqb k 83 ≡ u → not (eqb ((k + 178) % 256 * ((k + 173) % 256)) 0) ≡ (not t && not u)
 product-by k h true u p q = rw (eqb-true k 78 p)
 product-by k h false true p q = rw (eqb-true k 83 q)
@@ -61,15 +58,6 @@ pub neither : (t u : Bool) → (not t && not u) ≡ true → (t ≡ false) × (u
 neither true u e = absurd (let z : ◌≡◌ {A = ℕ} 0 1 = cc in omega arith)
 neither false true e = absurd (let z : ◌≡◌ {A = ℕ} 0 1 = cc in omega arith)
 neither false false e = (refl, refl)
-
--- both letters are at most 87, from which the code is counted
-small_by : (k : ℕ) (t u : Bool) → eqb k 78 ≡ t → eqb k 83 ≡ u → (not t && not u) ≡ false → k ≤ 87
-small_by k true u p q e = let a = eqb-true k 78 p in omega arith
-small_by k false true p q e = let a = eqb-true k 83 q in omega arith
-small_by k false false p q e = absurd (let z : ◌≡◌ {A = ℕ} 0 1 = cc in omega arith)
-
-pub alone-small : (k : ℕ) → (not (eqb k 78) && not (eqb k 83)) ≡ false → k ≤ 87
-alone-small k e = small_by k (eqb k 78) (eqb k 83) refl refl e
 
 alone-by : (t u : Bool) (k : ℕ) (xs : List ℕ) → (k ≡ 78 → ⊥) → (k ≡ 83 → ⊥) → meaning_in (cond t (cells [] [] (10 ∷ xs)) (cond u (push_cell (cells [] [] xs)) (onto_cell k (cells [] [] xs)))) ≡ malformed
 unfolding call_of

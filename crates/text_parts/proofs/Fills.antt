@@ -1,14 +1,22 @@
 -- The lines of runs put one after the other: a turn of the loop, and its ways out.
+--     writes               the line of the run at a place
 --     turn, stop, done     a line was put, a line was refused, no run is left
 -- Assumes nothing.
 use mathlib.Core.Path.{◌≡◌, sym, ap, ◌∙◌}
+use mathlib.Core.Bool.{Bool}
 use mathlib.Core.List.{List}
-use Prim.Native.Nat.{ℕ, zero, suc, ◌+◌, ◌-◌, ◌≤◌, ◌<◌}
+use Prim.Native.Nat.{ℕ, suc, ◌+◌, ◌-◌, ◌≤◌, ◌<◌}
 use native.Mathlib.Omega.{arith}
 use Rattle.run_lines.specs.declared.RunLine.{RunLine}
 use Rattle.run_lines.specs.declared.RunLine.TheVariants.{UpTo, NoLine}
-use Rattle.run_lines.specs.RunLine.{RunPut, run_put}
+use Rattle.run_lines.specs.RunLine.{RunPut, run_put, run_line_call}
+use Rattle.script.specs.declared.Head.{Head}
+use Rattle.script.specs.Columns.{Columns}
 use Rattle.text_parts.specs.Inner.{FillLeft, filled_at, fill_runs}
+
+-- the line of the run at a place
+abbrev pub writes : Bool → Head → (rows : ℕ) → Columns → (ops spans sizes : List ℕ) → (place at : ℕ) → List ℕ → RunPut
+writes judged head rows k ops spans sizes place at out = run_line_call judged place head rows k ops spans sizes at out
 
 module _ (w : (place at : ℕ) → List ℕ → RunPut) where
   pub fill_on : (n place at next : ℕ) (out new : List ℕ) → w place at out ≡ run_put (UpTo next) new → fill_runs w (suc n) place at out ≡ fill_runs w n (suc place) next new

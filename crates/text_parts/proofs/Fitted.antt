@@ -4,26 +4,26 @@
 --     none-fits, reply-is      the part, where the first line does not fit, and by how many lines fit
 --     fills                    lines put one after the other are those that fit
 -- Assumes nothing.
-use mathlib.Core.Path.{◌≡◌, refl, sym, ap, ap₂, ◌∙◌}
+use mathlib.Core.Path.{◌≡◌, refl, sym, ap, ◌∙◌}
 use mathlib.Core.Bool.{Bool, true, false, cond}
 use mathlib.Core.List.{List, [], ◌∷◌, ◌++◌, flatten}
 use Prim.Native.Nat.{ℕ, zero, suc, ◌+◌, ◌-◌, ◌≤◌, ◌<◌}
 use native.Mathlib.Nat.{suc-ne-zero, add-zero, zero-add}
 use native.Mathlib.Omega.{arith}
 use lib.ListN.{length, drop, length-append}
-use lib.Dec.{leb, ltb}
+use lib.Dec.{leb}
 use borrow.Author.Tests.{leb-true, leb-false, le-leb, lt-leb, lt-ltb, le-ltb, ne_eqb}
 use Rattle.basics.specs.Tests.{unless, first_of}
 use Rattle.basics.specs.Parts.{overlaid}
 use Rattle.lines.specs.declared.Line.TheVariants.{NotWritten}
-use Rattle.lines.specs.Answers.{Put, put}
+use Rattle.lines.specs.Answers.{put}
 use Rattle.pieces.proofs.Cursors.{overlaid-none, length-overlaid, overlaid-more}
 use Rattle.text_of_runs.specs.Claim.{run_lines}
 use Rattle.text_of_runs.proofs.Short.{put-past}
 use Rattle.run_lines.specs.RunLine.{RunPut, line_as}
 use Rattle.text_parts.specs.declared.Part.{Part}
 use Rattle.text_parts.specs.declared.Part.TheVariants.{Lines, NoRoom}
-use Rattle.text_parts.specs.Parts.{fitting, none_fits, PartLeft, part_left, part_with, part_of}
+use Rattle.text_parts.specs.Parts.{fitting, PartLeft, part_left, part_of}
 use Rattle.text_parts.specs.Inner.{FillLeft, filled_at, fill_runs, part_reply}
 use Rattle.text_parts.proofs.Fills.{fill_on, fill_stop}
 

@@ -13,33 +13,29 @@ use native.Mathlib.Nat.{add-zero, sub-zero, zero-sub, suc-ne-zero, not-suc-le-ze
 use native.Mathlib.Omega.{arith}
 use lib.ListN.{length, take, drop, length-append, length-drop, drop_of_length-le}
 use lib.Seq.{take-append_seam}
-use lib.Dec.{leb}
 use borrow.Author.Tests.{lt-ltb, le-ltb, ne_eqb}
 use Rattle.basics.specs.Parts.{overlaid}
 use Rattle.basics.proofs.Tests.{le-or-gt}
 use Rattle.basics.proofs.Lists.{Each, each-cons, each_none}
-use Rattle.session.specs.Log.{Log}
 use Rattle.script.specs.declared.Head.{Head}
-use Rattle.script.specs.Columns.{Columns, After, read_into}
+use Rattle.script.specs.Columns.{Columns, After}
 use Rattle.lines.specs.Lines.{runs_line, refused_text}
 use Rattle.lines.specs.Answers.{Put, put}
 use Rattle.pieces.proofs.Cursors.{length-overlaid, overlaid-more}
 use Rattle.pieces.proofs.Lists.{flatten-append}
 use Rattle.sweeps.specs.Sweep.{sweep_output, judge_output}
 use Rattle.harness.specs.declared.Opened.{Opened}
-use Rattle.harness.specs.declared.Opened.TheVariants.{Runs}
 use Rattle.harness.specs.Opening.{OpenLeft, open_on}
 use Rattle.text_of_runs.specs.Lent.{Sheet}
 use Rattle.text_of_runs.specs.Printout.{sweep_lines, judge_lines}
-use Rattle.text_of_runs.specs.Claim.{run_lines, SweepPrinted, Outputs, Printed, unread, unswept, swept}
+use Rattle.text_of_runs.specs.Claim.{run_lines, Outputs, Printed, unread, unswept, swept}
 use Rattle.text_of_runs.proofs.Short.{put-past, runs-short, refused-short}
 use Rattle.text_of_runs.proofs.Whole.{printed}
 use Rattle.run_lines.specs.RunLine.{RunPut, line_as, run_line_call}
 use Rattle.run_lines.proofs.Whole.{zeros-long, line_at}
 use Rattle.text_parts.specs.declared.Part.{Part}
-use Rattle.text_parts.specs.declared.Part.TheVariants.{Lines, NoRoom}
-use Rattle.text_parts.specs.Parts.{fitting, none_fits, PartLeft, part_left, part_with, part_of, in_turn, Parts, AllParts}
-use Rattle.text_parts.specs.Inner.{FillLeft, filled_at, fill_runs, part_reply, part_after, part_first, first_part, runs_part, runs_of, recorded_part, opened_part, swept_part, fresh_columns, read_part, part_call}
+use Rattle.text_parts.specs.Parts.{fitting, none_fits, part_left, part_with, part_of, in_turn, Parts, AllParts}
+use Rattle.text_parts.specs.Inner.{fill_runs, part_reply, part_after, part_first, first_part, runs_part, runs_of, recorded_part, opened_part, swept_part, fresh_columns, read_part, part_call}
 use Rattle.text_parts.proofs.Fitted.{fit-first, fit-before, none-fits, part_by, reply-is, put-none, over-front, reached, fills}
 
 -- ---- lines by place

@@ -3,11 +3,11 @@ use Rattle.std.specs.Prelude.{Bool, not, ◌&&◌, cond, List, [], ◌∷◌, �
 use Rattle.script.specs.declared.Head.{Head}
 use Rattle.script.specs.declared.ReadScript.{ReadScript}
 use Rattle.script.specs.declared.ReadScript.TheVariants.{Read, Refused}
-use Rattle.script.specs.Columns.{Columns, columns, After, read_into}
+use Rattle.script.specs.Columns.{Columns, columns, read_into}
 use Rattle.lines.specs.declared.Line.{Line}
 use Rattle.lines.specs.declared.Line.TheVariants.{Past, NotWritten}
 use Rattle.lines.specs.Lines.{runs_line, refused_text}
-use Rattle.lines.specs.Answers.{Put, put}
+use Rattle.lines.specs.Answers.{put}
 use Rattle.harness.specs.declared.Opened.{Opened}
 use Rattle.harness.specs.declared.Opened.TheVariants.{Runs, NotSwept}
 use Rattle.harness.specs.Opening.{OpenLeft, open_on}

@@ -1,15 +1,10 @@
 -- `text_parts::fill` meets its contract: what is left to put, with what was put, is all of it. Assumes nothing.
-use mathlib.Core.Path.{◌≡◌, refl, ◌∙◌}
-use mathlib.Core.Bool.{Bool}
-use mathlib.Core.List.{List}
-use Prim.Native.Nat.{ℕ, ◌-◌, ◌≤◌}
-use native.Mathlib.Omega.{arith}
+use mathlib.Core.Path.{◌≡◌}
+use Prim.Native.Nat.{◌-◌, ◌≤◌}
 use lib.ListN.{length}
-use Rattle.script.specs.declared.Head.{Head}
-use Rattle.script.specs.Columns.{Columns, columns}
-use Rattle.run_lines.specs.RunLine.{RunPut, run_line_call}
+use Rattle.script.specs.Columns.{columns}
 use Rattle.text_parts.specs.Inner.{fill_runs}
-use Rattle.text_parts.proofs.Fills.{turn, stop, done}
+use Rattle.text_parts.proofs.Fills.{writes}
 use Rattle.text_parts.proofs.fill.Given as goal
 
 -- the runs from this one on, put from here on, are all the runs put from the start

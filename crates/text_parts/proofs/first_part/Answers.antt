@@ -4,7 +4,6 @@ use Prim.Native.Nat.{ℕ}
 use Rattle.script.specs.Columns.{columns}
 use Rattle.run_lines.specs.RunLine.{RunPut, run_line_call}
 use Rattle.text_parts.proofs.Steps.{first-none, first_some}
-use borrow.Author.Rules.{rules}
 use Rattle.text_parts.proofs.first_part.Goals as goal
 use Rattle.text_parts.proofs.first_part.Goals.{Start}
 
@@ -14,10 +13,8 @@ writes c place at out = run_line_call c.args.judged place c.args.head c.args.row
 
 pub returns-in-NotWritten : goal.returns-in-NotWritten
 returns-in-NotWritten c =
-    
     first-none (writes (goal.at.returns-in-NotWritten c).Start) c.args.runs c.args.out.now _ _ c.runs_line-told.ensures _ c.in-NotWritten.is
 
 pub returns-in-Past : goal.returns-in-Past
 returns-in-Past c =
-    
     first_some (writes (goal.at.returns-in-Past c).Start) c.args.runs c.args.out.now _ _ c.runs_line-told.ensures _ c.in-Past.is _ _ c.fill-filled.ensures.0 _ c.reply_of.ensures

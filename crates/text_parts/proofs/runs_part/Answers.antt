@@ -4,7 +4,6 @@ use Prim.Native.Nat.{ℕ}
 use Rattle.script.specs.Columns.{columns}
 use Rattle.run_lines.specs.RunLine.{RunPut, run_line_call}
 use Rattle.text_parts.proofs.Steps.{past_all, from_first, from-run}
-use borrow.Author.Rules.{rules}
 use Rattle.text_parts.proofs.runs_part.Goals as goal
 use Rattle.text_parts.proofs.runs_part.Goals.{Start}
 
@@ -14,15 +13,12 @@ writes c place at out = run_line_call c.args.judged place c.args.head c.args.row
 
 pub returns-then-runs-from : goal.returns-then-runs-from
 returns-then-runs-from c =
-    
     past_all (writes (goal.at.returns-then-runs-from c).Start) c.args.runs c.args.out.now c.args.from c.if-runs-from.true
 
 pub returns-then-from-eq0 : goal.returns-then-from-eq0
 returns-then-from-eq0 c =
-    
     from_first (writes (goal.at.returns-then-from-eq0 c).Start) c.args.runs c.args.out.now c.args.from c.if-runs-from.false c.if-from-eq0.true _ _ c.first_part.ensures
 
 pub returns : goal.returns
 returns c =
-    
     from-run (writes (goal.at.returns c).Start) c.args.runs c.args.out.now c.args.from c.if-runs-from.false c.if-from-eq0.false _ _ c.fill-filled.ensures.0 _ c.reply_of.ensures

@@ -10,5 +10,4 @@ table c = columns c.args.kinds.now c.args.firsts.now c.args.seconds.now c.args.t
 
 pub returns : goal.returns
 returns c =
-    
     swept-is c.args.judged c.args.from c.args.head c.args.rows (table (goal.at.returns c).Start) c.args.out.now _ _ _ _ c.open_rows-opened.ensures _ _ c.opened_part.ensures
