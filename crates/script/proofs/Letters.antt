@@ -1,13 +1,14 @@
 -- A line after the first, by its letter: what each way out of the line readers says of the line.
 -- Assumes nothing.
-use mathlib.Core.Path.{◌≡◌, refl, ap, ◌∙◌}
+use mathlib.Core.Path.{◌≡◌, refl, ap, sym, ◌∙◌}
 use mathlib.Core.Bool.{Bool, true, false, cond, not, ◌&&◌}
-use mathlib.Core.List.{List, [], ◌∷◌}
-use Prim.Native.Nat.{ℕ, ◌+◌, ◌-◌, ◌*◌, ◌/◌, ◌%◌, ◌≤◌, ◌<◌}
-use native.Mathlib.Nat.{mul-pos}
+use mathlib.Core.List.{List, [], ◌∷◌, ◌++◌}
+use Prim.Native.Nat.{ℕ, suc, ◌+◌, ◌-◌, ◌*◌, ◌/◌, ◌%◌, ◌≤◌, ◌<◌}
+use native.Mathlib.Nat.{mul-le-mul, mul-pos}
+use native.Mathlib.Numerals.{add-one}
 use native.Mathlib.Omega.{arith}
-use lib.ListN.{length, get_or, drop, drop_of_length-le}
-use lib.Dec.{eqb}
+use lib.ListN.{length, get_or, take, drop, drop_of_length-le}
+use lib.Dec.{eqb, leb}
 use borrow.Author.Tests.{ne_eqb, eqb-true, eqb-false, le-leb, lt-leb}
 use Rattle.basics.proofs.Scans.{at-step}
 use Rattle.read_fields.specs.declared.Number.{Number}
@@ -19,9 +20,9 @@ use Rattle.text.specs.Numbers.{Decimal, number, none, number_of}
 use Rattle.text.specs.Pairs.{is_pairs, pair_values}
 use Rattle.read_fields.specs.Answers.{number_at}
 use Rattle.hex_pairs.specs.Answers.{pairs_at}
-use Rattle.script.specs.Calls.{begin, end, mark, program, erase, barrier, malformed, begin_with, mark_with, erase_with, program_with, is_bytes, call_of}
+use Rattle.script.specs.Calls.{Call, begin, end, mark, program, erase, barrier, Meaning, call, malformed, begin_with, mark_with, erase_with, program_with, is_bytes, is_kind, call_of}
 use Rattle.script.specs.Inner.{Cells, cells, broken, onto_cell, push_cell, cells_of, in_front, meaning_in, Opened, row_of, Taken}
-use Rattle.script.proofs.Told.{inner-value, inner-none, last-value, last_none, pairs-value, pairs-none}
+use Rattle.script.proofs.Told.{Inner, inner-value, inner-none, Last, last-value, last_none, PairsLast, pairs-value, pairs-none}
 
 -- ---- the letter and the byte after it
 
@@ -39,7 +40,10 @@ opened s from k e h p q =
 
 -- ---- one field: `N` and `S`
 
--- the product is 0 for these two letters alone
+-- the product is 0 for these two letters alone, and small
+pub product_small : (m n : ℕ) → m % 256 * (n % 256) ≤ 65025
+product_small m n = let a : m % 256 ≤ 255 = omega arith in let b : n % 256 ≤ 255 = omega arith in mul-le-mul a b
+
 product-by : (k : ℕ) → k < 256 → (t u : Bool) → eqb k 78 ≡ t → eqb k 83 ≡ u → not (eqb ((k + 178) % 256 * ((k + 173) % 256)) 0) ≡ (not t && not u)
 product-by k h true u p q = rw (eqb-true k 78 p)
 product-by k h false true p q = rw (eqb-true k 83 q)
@@ -58,6 +62,15 @@ pub neither : (t u : Bool) → (not t && not u) ≡ true → (t ≡ false) × (u
 neither true u e = absurd (let z : ◌≡◌ {A = ℕ} 0 1 = cc in omega arith)
 neither false true e = absurd (let z : ◌≡◌ {A = ℕ} 0 1 = cc in omega arith)
 neither false false e = (refl, refl)
+
+-- both letters are at most 87, from which the code is counted
+small_by : (k : ℕ) (t u : Bool) → eqb k 78 ≡ t → eqb k 83 ≡ u → (not t && not u) ≡ false → k ≤ 87
+small_by k true u p q e = let a = eqb-true k 78 p in omega arith
+small_by k false true p q e = let a = eqb-true k 83 q in omega arith
+small_by k false false p q e = absurd (let z : ◌≡◌ {A = ℕ} 0 1 = cc in omega arith)
+
+pub alone-small : (k : ℕ) → (not (eqb k 78) && not (eqb k 83)) ≡ false → k ≤ 87
+alone-small k e = small_by k (eqb k 78) (eqb k 83) refl refl e
 
 alone-by : (t u : Bool) (k : ℕ) (xs : List ℕ) → (k ≡ 78 → ⊥) → (k ≡ 83 → ⊥) → meaning_in (cond t (cells [] [] (10 ∷ xs)) (cond u (push_cell (cells [] [] xs)) (onto_cell k (cells [] [] xs)))) ≡ malformed
 unfolding call_of

@@ -2,12 +2,12 @@
 --     first-none, first_some                  the part that begins with the count of runs
 --     past_all, from_first, from-run          the part of a sweep, past its end, from the count or from a run on
 --     refused-past, refused_none, refused-some  the part of a refused script
---     open-zeros                              the fault-free run, on columns of zeros
+--     open-part, open-zeros                   the fault-free run, on a part of the media and on columns of zeros
 --     recorded-is                             the runs, by the operations recorded
---     swept-is                                a sweep that is refused, or its runs
+--     opened-refused, opened-runs, swept-is   a sweep that is refused, or its runs
 --     read-refused, read-swept                a script that is refused, or its sweep
 -- Assumes nothing.
-use mathlib.Core.Path.{◌≡◌, refl, sym, ap, ◌∙◌}
+use mathlib.Core.Path.{◌≡◌, refl, sym, ap, ap₂, ◌∙◌}
 use mathlib.Core.Bool.{Bool, true, false}
 use mathlib.Core.List.{List, [], ◌∷◌, ◌++◌, append-nil, flatten}
 use Prim.Native.Nat.{ℕ, zero, suc, ◌+◌, ◌-◌, ◌≤◌, ◌<◌, min}
@@ -26,8 +26,9 @@ use Rattle.lines.specs.declared.Line.TheVariants.{Past, NotWritten}
 use Rattle.lines.specs.Lines.{runs_line, refused_text}
 use Rattle.lines.specs.Answers.{Put, put}
 use Rattle.harness.specs.declared.Opened.{Opened}
+use Rattle.harness.specs.declared.Opened.TheVariants.{Runs, NotSwept}
 use Rattle.harness_runs.specs.Running.{zeros, cells}
-use Rattle.harness.specs.Opening.{open_call, open_on}
+use Rattle.harness.specs.Opening.{open_left, open_call, open_on}
 use Rattle.run_lines.specs.RunLine.{RunPut, run_line_call}
 use Rattle.run_lines.proofs.Parts.{lined}
 use Rattle.text_of_runs.proofs.Short.{put-past}
@@ -35,7 +36,7 @@ use Rattle.text_parts.specs.declared.Part.{Part}
 use Rattle.text_parts.specs.declared.Part.TheVariants.{Lines, NoRoom}
 use Rattle.text_parts.specs.declared.Filled.{Filled}
 use Rattle.text_parts.specs.Parts.{PartLeft, part_left, fitting, part_of}
-use Rattle.text_parts.specs.Inner.{fill_left, fill_runs, part_reply, part_after, part_first, first_part, runs_part, runs_of, refused_part, OpenEnd, open_end, end_of_open, recorded_part, opened_part, swept_part, read_part, part_call}
+use Rattle.text_parts.specs.Inner.{FillLeft, fill_left, fill_runs, part_reply, part_after, part_first, first_part, runs_part, runs_of, refused_part, OpenEnd, open_end, end_of_open, recorded_part, opened_part, swept_part, fresh_columns, read_part, part_call}
 use Rattle.text_parts.proofs.Fitted.{none-fits, put-none, over-front, fit-first}
 
 -- ---- the count of runs, and the runs after it
@@ -126,6 +127,15 @@ module _ (number line from : ℕ) (out : List ℕ) where
 
 -- ---- the fault-free run
 
+pub open-part : (h : Head) (rows : ℕ) (k : Columns) (media copy ks os ls : List ℕ) → length media ≡ 16384 → length copy ≡ 16384
+    → (n : ℕ) → n ≡ min h.geometry.capacity 16384 → (r : Opened) (media₁ copy₁ ks₁ os₁ ls₁ : List ℕ)
+    → open_left r media₁ copy₁ ks₁ os₁ ls₁ ≡ open_call h rows k (take n media) (take n copy) ks os ls
+    → open_end r ks₁ os₁ ls₁ ≡ end_of_open (open_call h rows k (take h.geometry.capacity media) (take h.geometry.capacity copy) ks os ls)
+open-part h rows k media copy ks os ls lm lc n q r media₁ copy₁ ks₁ os₁ ls₁ p =
+    ap end_of_open p
+    ∙ ap₂ (λ (x y : List ℕ). end_of_open (open_call h rows k x y ks os ls)) (take-few media 16384 h.geometry.capacity n lm q)
+    (take-few copy 16384 h.geometry.capacity n lc q)
+
 pub open-zeros : (h : Head) (rows : ℕ) (k : Columns) (ks os ls : List ℕ) (e : OpenEnd)
     → (let media : List ℕ = take h.geometry.capacity (replicate 16384 0) in e ≡ end_of_open (open_call h rows k media media ks os ls))
     → e ≡ end_of_open (open_call h rows k (cells h) (cells h) ks os ls)
@@ -148,6 +158,14 @@ module _ (judged : Bool) (from : ℕ) (h : Head) (rows : ℕ) (k : Columns) (out
       p ∙ λ i. runs_part (λ (place at : ℕ) (o : List ℕ). run_line_call judged place h rows k (ek i) (eo i) (el i) at o) (c i) from out
 
   module _ (r : Opened) (ks os ls : List ℕ) where
+    pub opened-refused : (number : ℕ) → r ≡ NotSwept number → (reply : Part) (new : List ℕ) → part_left reply new ≡ refused_part number 0 from out
+        → part_left reply new ≡ opened_part judged from h rows k r ks os ls out
+    opened-refused number q reply new p = p ∙ ap (λ (x : Opened). opened_part judged from h rows k x ks os ls out) (sym q)
+
+    pub opened-runs : (n points : ℕ) → r ≡ Runs n points → (reply : Part) (new : List ℕ) → part_left reply new ≡ recorded_part judged from h rows k n points ks os ls out
+        → part_left reply new ≡ opened_part judged from h rows k r ks os ls out
+    opened-runs n points q reply new p = p ∙ ap (λ (x : Opened). opened_part judged from h rows k x ks os ls out) (sym q)
+
     pub swept-is : (let column : List ℕ = replicate 1024 0 in open_end r ks os ls ≡ end_of_open (open_call h rows k (cells h) (cells h) column column column))
         → (reply : Part) (new : List ℕ) → part_left reply new ≡ opened_part judged from h rows k r ks os ls out → part_left reply new ≡ swept_part judged from h rows k out
     unfolding swept_part open_on zeros
