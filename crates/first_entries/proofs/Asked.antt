@@ -1,5 +1,5 @@
 -- What `state` and `torn` answer at each of their ways out: one law for each, whose premises are what the calls ensure and what
--- the tests say. `asked` is all of them, for `search (needs, asked)`. Assumes nothing.
+-- the tests say. `asked` is all of them, for `search (rules, asked)`. Assumes nothing.
 use mathlib.Core.Path.{◌≡◌, sym, ap, ◌∙◌}
 use mathlib.Core.Bool.{Bool, true, false, not, ◌&&◌}
 use mathlib.Core.List.{List}

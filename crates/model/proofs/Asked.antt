@@ -1,5 +1,5 @@
 -- What `len` answers at each of its ways out: one law for each, whose premises are what `refusal` ensures and what the test says.
--- `asked` is both, for `search (needs, asked)`. Assumes nothing.
+-- `asked` is both, for `search (rules, asked)`. Assumes nothing.
 use mathlib.Core.Path.{◌≡◌, sym, ◌∙◌}
 use mathlib.Core.List.{List}
 use Prim.Native.Nat.{ℕ}

@@ -1,6 +1,6 @@
 -- What a turn of each loop shows, and each way out of a scan: one law for each, whose premises stand as the function's own
 -- tests, its calls and its invariant give them. A premise from a call takes the call's result r and two facts of it: what the
--- callee ensures and what the test says. `passed` is all of them, for `search (needs, passed)`. Assumes nothing.
+-- callee ensures and what the test says. `passed` is all of them, for `search (rules, passed)`. Assumes nothing.
 use mathlib.Core.Path.{◌≡◌, refl, ap, ap₂, sym, ◌∙◌}
 use mathlib.Core.Bool.{Bool, true, false, cond}
 use mathlib.Core.List.{List, [], ◌∷◌}

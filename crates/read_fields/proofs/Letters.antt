@@ -31,5 +31,5 @@ module _ (s : List ℕ) (from end : ℕ) where
         pub letter-one : get_or s (from + 1) 0 ≡ end → One (get_or s from 0) (from + 2) ≡ letter_at from (field_to end (drop from s))
         letter-one p = rw (field_step s from end h q, field-here s (from + 1) end k p)
 
--- all of them, for `search (needs, letters)`
+-- all of them, for `search (rules, letters)`
 pub ruleset letters = (letter-out, letter-empty, letter-cut, letter-long, letter-one)

@@ -160,5 +160,5 @@ module _ (s : List ℕ) (from end : ℕ) where
           pub number-zero : get_or s (from + 1) 0 ≡ end → Value 0 (from + 1 + 1) ≡ number_at from (field_to end (drop from s))
           number-zero p = rw (by_zero, field-here s (from + 1) end k p, zero-alone)
 
--- all of them, for `search (needs, numbers)`
+-- all of them, for `search (rules, numbers)`
 pub ruleset numbers = (digits-out, digits-here, digits_low, digits-high, digits-over, digits-next, number-out, number-empty, number_digits, number_cut, number-led, number-zero)

@@ -26,7 +26,7 @@ use Rattle.plain.specs.Ledger.{id_of, begun, ledger}
 use Rattle.plain.proofs.Entries.{ledger-ids}
 use Rattle.script.specs.Calls as line
 use Rattle.script.specs.Columns.{Columns}
-use Rattle.script.specs.Held.{call_from, rows_in, calls_in}
+use Rattle.script.specs.Held.{call_from, rows_in}
 use Rattle.rows.specs.Rows.{takes, begins_from}
 use Rattle.rows.proofs.Numbers.{RowsEven}
 use Rattle.steps.specs.Calls.{plain_calls}

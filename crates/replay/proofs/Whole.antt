@@ -5,7 +5,7 @@
 -- Assumes nothing.
 use mathlib.Core.Path.{◌≡◌, refl, sym, ap, ◌∙◌}
 use mathlib.Core.Bool.{Bool, true, false, ◌||◌}
-use mathlib.Core.List.{List, [], ◌∷◌, ◌++◌, map}
+use mathlib.Core.List.{List, [], ◌∷◌, ◌++◌}
 use Prim.Native.Nat.{ℕ, zero, suc, ◌≤◌}
 use native.Mathlib.Nat.{le_trans}
 use native.Mathlib.Omega.{arith}
@@ -37,7 +37,7 @@ use Rattle.script.specs.Columns.{Columns}
 use Rattle.script.specs.Held.{calls_in}
 use Rattle.rows.specs.Rows.{rows_uneven_of, lengths_number, contents_number, rows_number, begins_from}
 use Rattle.rows.proofs.Numbers.{Even, evens, lengths-known, kinds-known, long-enough}
-use Rattle.steps.specs.Step.{session_of, Task, call}
+use Rattle.steps.specs.Step.{session_of}
 use Rattle.runner.specs.declared.Ended.{Ended}
 use Rattle.runner.specs.Run.{tasks_in, Outcome, ran_rows, Leaves, left_of, leaves}
 use Rattle.runner.proofs.Lines.{tasks-calls}
