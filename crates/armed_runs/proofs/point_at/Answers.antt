@@ -5,7 +5,6 @@ use Rattle.armed_runs.proofs.point_at.Goals as goal
 
 pub returns-then-place-eq0 : goal.returns-then-place-eq0
 returns-then-place-eq0 c =
-    
     place-first c.args.place c.args.geometry c.args.kinds.now c.args.offsets.now c.args.lens.now c.if-place-eq0.true _ c.injection_count-counted.ensures _ c.free_run.ensures
 
 pub returns-in-Point : goal.returns-in-Point

@@ -1,14 +1,10 @@
 -- `harness::range_behind` meets its contract: the rows not yet looked at tell what all tell. Assumes nothing.
 use mathlib.Core.Path.{◌≡◌}
-use Prim.Native.Nat.{◌-◌, ◌≤◌, ◌<◌}
-use native.Mathlib.Omega.{arith}
-use lib.ListN.{length}
-use borrow.Author.Rules.{rules}
-use Rattle.script.specs.Columns.{Columns, columns}
+use Prim.Native.Nat.{◌-◌, ◌≤◌}
+use Rattle.script.specs.Columns.{columns}
 use Rattle.script.specs.Held.{calls_in}
 use Rattle.rows.proofs.Rows.{rows_at}
 use Rattle.sweeps.specs.Decided.{range_behind}
-use Rattle.harness.proofs.Behind.{behind-first, behind-found, behind-next, behind-none}
 use Rattle.harness.proofs.range_behind.Given as goal
 
 abbrev pub invariant-loop-i : goal.invariant-loop-i

@@ -14,7 +14,6 @@ table c = columns c.args.kinds.now c.args.firsts.now c.args.seconds.now c.args.t
 
 pub returns-then-refused-ne0 : goal.returns-then-refused-ne0
 returns-then-refused-ne0 c =
-    
     run-refused c.args.head c.args.armed c.args.rows (table (goal.at.returns-then-refused-ne0 c).Start) c.args.media.now c.args.copy.now c.args.ops.now c.args.spans.now c.args.sizes.now (entered_of c.args.ids.now c.args.states.now c.args.torn.now) _ c.rows_refusal-refused.ensures c.if-refused-ne0.true
 
 pub slice_bounds-run_rows-end : goal.slice_bounds-run_rows-end
@@ -22,5 +21,4 @@ slice_bounds-run_rows-end c = sym (length-replicate {A = ℕ} 1 0)
 
 pub returns : goal.returns
 returns c =
-    
     run_ends c.args.head c.args.armed c.args.rows (table (goal.at.returns c).Start) c.args.media.now c.args.copy.now c.args.ops.now c.args.spans.now c.args.sizes.now (entered_of c.args.ids.now c.args.states.now c.args.torn.now) _ c.rows_refusal-refused.ensures c.if-refused-ne0.false _ _ (zeros-are 1024) (zeros-are 512) _ c.told_by-told.ensures _ _ c.unstarted-begun.ensures c.fill_erased.ensures _ _ _ _ _ _ _ c.run_rows-written.ensures _ _ c.derive-derived.ensures _ c.ended.ensures

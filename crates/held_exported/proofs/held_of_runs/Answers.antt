@@ -17,15 +17,12 @@ asked c p i f r = held_call (record { op = c.args.op; progress = p; interruption
 
 pub returns-in-Kept : goal.returns-in-Kept
 returns-in-Kept c =
-    
     told-kept (asked (goal.at.returns-in-Kept c).Start) _ _ c.progress_of-progress.ensures _ _ c.interruption_of-interruption.ensures _ _ c.counters_of-free.ensures _ _ c.counters_of-run.ensures _ c.held_to-held.ensures c.in-Kept.is
 
 pub returns-in-Relabelled : goal.returns-in-Relabelled
 returns-in-Relabelled c =
-    
     told-relabelled (asked (goal.at.returns-in-Relabelled c).Start) _ _ c.progress_of-progress.ensures _ _ c.interruption_of-interruption.ensures _ _ c.counters_of-free.ensures _ _ c.counters_of-run.ensures _ c.held_to-held.ensures c.in-Relabelled.is
 
 pub returns-in-NotHeld : goal.returns-in-NotHeld
 returns-in-NotHeld c =
-    
     told-refused (asked (goal.at.returns-in-NotHeld c).Start) _ _ c.progress_of-progress.ensures _ _ c.interruption_of-interruption.ensures _ _ c.counters_of-free.ensures _ _ c.counters_of-run.ensures _ c.held_to-held.ensures _ c.in-NotHeld.is

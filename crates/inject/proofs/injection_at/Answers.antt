@@ -32,10 +32,8 @@ seek-failed-requires c = fine (goal.at.seek-failed-requires c).Else-refused-ne0
 
 pub returns-in-At : goal.returns-in-At
 returns-in-At c =
-    
     place_found _ _ _ _ _ c.refuse-refused.ensures _ _ c.if-refused-ne0.false (searched (goal.at.returns-in-At c).After-seek-failed ∙ c.in-At.is)
 
 pub returns-in-Past : goal.returns-in-Past
 returns-in-Past c =
-    
     place-past _ _ _ _ _ c.refuse-refused.ensures _ _ c.if-refused-ne0.false (searched (goal.at.returns-in-Past c).After-seek-failed ∙ c.in-Past.is)

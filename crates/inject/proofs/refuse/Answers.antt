@@ -30,18 +30,15 @@ returns-then-not-equal c = stop-lent _ _ _ _ _ (described (goal.at.returns-then-
 
 pub returns-then-not-meant : goal.returns-then-not-meant
 returns-then-not-meant c =
-    
     stop-codes _ _ _ _ _ (described (goal.at.returns-then-not-meant c).Else-number-ne0) c.if-kinds-offsets.false c.if-kinds-lens.false (not-false _ c.if-not-equal.false-raw)
     (sym c.all_known-meant.ensures ∙ not-true _ c.if-not-meant.true-raw)
 
 pub returns-then-kinds-gt1024 : goal.returns-then-kinds-gt1024
 returns-then-kinds-gt1024 c =
-    
     stop-many _ _ _ _ _ (described (goal.at.returns-then-kinds-gt1024 c).Else-number-ne0) c.if-kinds-offsets.false c.if-kinds-lens.false (not-false _ c.if-not-equal.false-raw)
     (sym c.all_known-meant.ensures ∙ not-false _ c.if-not-meant.false-raw) c.if-kinds-gt1024.true
 
 pub returns : goal.returns
 returns c =
-    
     passed _ _ _ _ _ (described (goal.at.returns c).Else-number-ne0) c.if-kinds-offsets.false c.if-kinds-lens.false (not-false _ c.if-not-equal.false-raw)
     (sym c.all_known-meant.ensures ∙ not-false _ c.if-not-meant.false-raw) c.if-kinds-gt1024.false

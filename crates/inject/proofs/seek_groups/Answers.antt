@@ -30,7 +30,6 @@ progress_at-progress-requires c = (c.group_of-group.ensures.small, rw c.size-poi
 
 pub returns-then-left-points : goal.returns-then-left-points
 returns-then-left-points c =
-    
     let l = c.loop-i in
     ap (λ (q : Progress). At (point l.i c.args.cause q)) c.progress_at-progress.ensures
     ∙ sym (rest_in _ _ _ _ _ c.requires _ c.loop-i-test.true _ c.group_of-group.ensures _
@@ -48,6 +47,5 @@ loop-i-preserved c = (
 pub returns : goal.returns
 unfolding sought
 returns c =
-    
     ap (λ xs. sought xs c.loop-i.left) (sym (rest_end c.args.geometry c.args.cause c.loop-i.i c.args.kinds.now c.args.offsets.now c.args.lens.now c.loop-i-test.false))
     ∙ c.loop-i.invariant.1

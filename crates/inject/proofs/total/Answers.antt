@@ -27,12 +27,10 @@ overflow_add-sum c =
 
 pub loop-i-preserved : goal.loop-i-preserved
 loop-i-preserved c =
-    
     let more = rest-length _ _ _ _ _ c.requires _ c.loop-i-test.true _ c.group_of-group.ensures in
     (omega arith, omega arith, omega (arith, more, c.size-sum.ensures.0))
 
 pub returns : goal.returns
 returns c =
-    
     let end = ap length (rest_end c.args.geometry c.args.cause c.loop-i.i c.args.kinds.now c.args.offsets.now c.args.lens.now c.loop-i-test.false) in
     (omega (arith, end), omega (arith, c.requires.few))

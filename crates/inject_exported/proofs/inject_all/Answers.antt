@@ -11,10 +11,8 @@ lent c = columns_of c.args.ops.now c.args.progresses.now c.args.counts.now c.arg
 
 pub returns-in-All : goal.returns-in-All
 returns-in-All c =
-    
     list-taken _ _ _ _ (lent (goal.at.returns-in-All c).After-injections-written) _ _ c.injections-written.ensures c.args.rows.now _ c.in-All.is
 
 pub returns-in-NotWritten : goal.returns-in-NotWritten
 returns-in-NotWritten c =
-    
     list-refused _ _ _ _ (lent (goal.at.returns-in-NotWritten c).After-injections-written) _ _ c.injections-written.ensures c.args.rows.now _ c.in-NotWritten.is

@@ -6,7 +6,6 @@ use Rattle.inject_exported.proofs.inject_at.Goals as goal
 
 pub returns-in-Point : goal.returns-in-Point
 returns-in-Point c =
-    
     let taken = find-taken _ _ _ _ _ _ c.injection_at-found.ensures _ _ c.in-Point.is in
     (taken.0, c.keep.ensures ∙ taken.1)
 

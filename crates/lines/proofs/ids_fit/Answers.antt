@@ -26,17 +26,11 @@ loop-i-init c = (omega arith, fit-start c.args.size c.args.at c.args.room _ c.fi
 
 pub returns-then-left-more : goal.returns-then-left-more
 returns-then-left-more c =
-    
-    
-    
     fit-out _ _ _ c.loop-i.invariant.1 _ _
     (ids-size _ _ _ (rw c.wide.ensures at c.places-more.ensures) c.loop-i-test.true) c.if-left-more.true
 
 pub loop-i-preserved : goal.loop-i-preserved
 loop-i-preserved c =
-    
-    
-    
     (omega arith, fit-more _ _ _ c.loop-i.invariant.1 _ _ (ids-size _ _ _ (rw c.wide.ensures at c.places-more.ensures) c.loop-i-test.true) c.if-left-more.false)
 
 pub returns : goal.returns

@@ -15,10 +15,6 @@ loop-row-init c = (omega arith, refl, refl)
 
 pub loop-row-preserved : goal.loop-row-preserved
 loop-row-preserved c =
-    
-    
-    
-    
     (omega arith, c.out-1.given ∙ c.loop-row.invariant.1, ids-put _ _ _ _ _ c.loop-row.invariant.2 c.loop-row-test.true (rw c.wide.ensures at c.put_field-past.ensures))
 
 pub returns : goal.returns

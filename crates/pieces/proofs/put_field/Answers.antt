@@ -5,6 +5,4 @@ use Rattle.pieces.proofs.put_field.Goals as goal
 
 pub returns : goal.returns
 returns c =
-    
-    
     two-pieces _ _ _ _ _ c.put_byte-from.ensures c.put_number.ensures

@@ -5,6 +5,4 @@ use Rattle.pieces.proofs.put_letter.Goals as goal
 
 pub returns : goal.returns
 returns c =
-    
-    
     two-pieces _ _ _ _ _ c.put_byte-tabbed.ensures c.put_byte.ensures

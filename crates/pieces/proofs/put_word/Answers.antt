@@ -13,9 +13,6 @@ loop-i-init c = (omega arith, refl, refl)
 
 pub loop-i-preserved : goal.loop-i-preserved
 loop-i-preserved c =
-    
-    
-    
     (omega arith, c.out-1.given ∙ c.loop-i.invariant.1, word-put _ _ _ _ _ c.loop-i.invariant.2 c.loop-i-test.true c.put_byte-past.ensures)
 
 pub returns : goal.returns

@@ -18,10 +18,8 @@ all c = lent c.args.answers.now c.args.media.now c.args.copy.now
 
 pub returns-in-Entries : goal.returns-in-Entries
 returns-in-Entries c =
-    
     replay-told c.args.told.now _ c.told_of-given.ensures c.args.rows (table (goal.at.returns-in-Entries c).Start) (all (goal.at.returns-in-Entries c).Start) _ _ c.replay-derived.ensures c.args.entries.now _ c.in-Entries.is
 
 pub returns-in-NotDerived : goal.returns-in-NotDerived
 returns-in-NotDerived c =
-    
     replay-refused c.args.told.now _ c.told_of-given.ensures c.args.rows (table (goal.at.returns-in-NotDerived c).Start) (all (goal.at.returns-in-NotDerived c).Start) _ _ c.replay-derived.ensures c.args.entries.now _ c.in-NotDerived.is

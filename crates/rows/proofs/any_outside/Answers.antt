@@ -19,8 +19,6 @@ bounds-lens-i c = omega (arith, c.loop-i.invariant.1, c.loop-i.invariant.2)
 
 pub returns-then-is_outside : goal.returns-then-is_outside
 returns-then-is_outside c =
-    
-    
     outside-found c.args.pool c.args.kinds.now c.args.lens.now c.args.starts.now _ _ c.loop-i.invariant.1 c.loop-i.invariant.2 c.loop-i.i c.loop-i.invariant.3 (omega arith) _ c.is_outside.ensures c.if-is_outside.true
 
 pub overflow_add-i : goal.overflow_add-i
@@ -28,12 +26,8 @@ overflow_add-i c = omega (arith, c.loop-i.invariant.1, c.loop-i.invariant.2)
 
 pub loop-i-preserved : goal.loop-i-preserved
 loop-i-preserved c =
-    
-    
     (omega arith, c.loop-i.invariant.1, c.loop-i.invariant.2, outside-next c.args.pool c.args.kinds.now c.args.lens.now c.args.starts.now _ _ c.loop-i.invariant.1 c.loop-i.invariant.2 c.loop-i.i c.loop-i.invariant.3 (omega arith) _ c.is_outside.ensures c.if-is_outside.false)
 
 pub returns : goal.returns
 returns c =
-    
-    
     outside-none c.args.pool c.args.kinds.now c.args.lens.now c.args.starts.now _ _ c.loop-i.invariant.1 c.loop-i.invariant.2 c.loop-i.i c.loop-i.invariant.3 (omega arith)

@@ -22,10 +22,8 @@ run_on-ran-requires c = (length-replicate {A = ℕ} 16384 0, length-replicate {A
 
 pub returns-in-NotRun : goal.returns-in-NotRun
 returns-in-NotRun c =
-    
     armed-refused c.args.judged c.args.place c.args.armed c.args.head c.args.rows (table (goal.at.returns-in-NotRun c).Start) c.args.at c.args.out.now _ _ (on-zeros c.args.head c.args.armed c.args.rows (table (goal.at.returns-in-NotRun c).Start) _ _ c.run_on-ran.ensures) _ c.in-NotRun.is
 
 pub returns-in-Ended : goal.returns-in-Ended
 returns-in-Ended c =
-    
     armed-ended c.args.judged c.args.place c.args.armed c.args.head c.args.rows (table (goal.at.returns-in-Ended c).Start) c.args.at c.args.out.now _ _ (on-zeros c.args.head c.args.armed c.args.rows (table (goal.at.returns-in-Ended c).Start) _ _ c.run_on-ran.ensures) _ _ _ _ c.in-Ended.is _ _ c.ended_line.ensures

@@ -16,10 +16,8 @@ slice_bounds-verdict_line-end c = sym (length-take-le _ _ (omega (arith, c.lower
 
 pub returns-in-ListRefused : goal.returns-in-ListRefused
 returns-in-ListRefused c =
-    
     judged-refused c.args.place c.args.ids.now c.args.states.now c.args.torn.now c.args.at c.args.out.now _ blank-long _ _ c.suggested-listed.ensures _ c.in-ListRefused.is
 
 pub returns-in-ListIs : goal.returns-in-ListIs
 returns-in-ListIs c =
-    
     judged-listed c.args.place c.args.ids.now c.args.states.now c.args.torn.now c.args.at c.args.out.now _ blank-long _ _ c.suggested-listed.ensures _ c.in-ListIs.is c.history-2-1.given _ c.lower-kept.ensures.0 _ _ c.verdict_line.ensures

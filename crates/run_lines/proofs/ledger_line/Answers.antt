@@ -17,5 +17,4 @@ slice_bounds-line_of-end-3 c = sym (length-take-le _ _ (omega (arith, c.lower-n.
 
 pub returns : goal.returns
 returns c =
-    
     rows-line c.args.judged c.args.place c.args.armed c.args.stop c.args.operations c.args.ids.now c.args.states.now c.args.torn.now c.args.at c.args.out.now c.args.count c.requires.0 c.requires.1 c.requires.2 _ c.lower-n.ensures.0 _ _ c.line_of-line.ensures _ c.reply_of.ensures

@@ -22,5 +22,4 @@ slice_bounds-run_one-end-4 c = sym (length-take-le _ _ (omega (arith, c.lower-ca
 
 pub returns : goal.returns
 returns c =
-    
     on-part c.args.head c.args.armed c.args.rows (columns c.args.kinds.now c.args.firsts.now c.args.seconds.now c.args.thirds.now c.args.starts.now c.args.pool.now) c.args.media.now c.args.copy.now (entered_of c.args.ids.now c.args.states.now c.args.torn.now) c.requires.0 c.requires.1 _ c.lower-capacity.ensures.0 _ _ _ _ _ _ _ c.run_one.ensures

@@ -13,5 +13,4 @@ lent c = marks_of c.args.codes.now c.args.ids.now c.args.places.now
 
 pub returns : goal.returns
 returns c =
-    
     marks-told (λ (v : Counters). begun v c.args.id (lent (goal.at.returns c).Start)) _ _ c.counters_of-counters.ensures _ _ _ _ c.begin_record-opened.ensures c.keep.ensures

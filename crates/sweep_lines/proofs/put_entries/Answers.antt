@@ -15,13 +15,8 @@ loop-row-init c = (omega arith, refl, refl)
 
 pub loop-row-preserved : goal.loop-row-preserved
 loop-row-preserved c =
-    
-    
-    
-    
     (omega arith, c.out-1.given ∙ c.loop-row.invariant.1, rows-put _ _ _ c.requires.0 c.requires.1 _ _ _ c.loop-row.invariant.2 _ c.loop-row-test.true c.put_entry-past.ensures)
 
 pub returns : goal.returns
 returns c =
-    
     rows-put-end _ _ _ c.requires.0 c.requires.1 _ _ _ c.loop-row.invariant.2 c.loop-row-test.false

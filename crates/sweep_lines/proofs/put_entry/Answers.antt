@@ -5,24 +5,12 @@ use Rattle.sweep_lines.proofs.put_entry.Goals as goal
 
 pub returns-then-marked : goal.returns-then-marked
 returns-then-marked c =
-    
-    
-    
-    
-    
-    
-    
     let a = c.args in
     entry-torn a.id a.state a.torn _ c.state_letter-letter.ensures _ c.is_torn-marked.ensures _ _ _
     c.put_field-named.ensures c.put_byte-stated.ensures c.if-marked.true _ c.put_byte.ensures
 
 pub returns : goal.returns
 returns c =
-    
-    
-    
-    
-    
     let a = c.args in
     entry_whole a.id a.state a.torn _ c.state_letter-letter.ensures _ c.is_torn-marked.ensures _ _ _
     c.put_field-named.ensures c.put_byte-stated.ensures c.if-marked.false
