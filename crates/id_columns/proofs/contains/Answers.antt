@@ -1,7 +1,7 @@
 -- `id_columns::contains` meets its contract: the whole column has the id exactly if what is left of it has. Assumes nothing.
 use mathlib.Core.Path.{sym, ◌∙◌}
 use borrow.Author.Rules.{rules}
-use Rattle.id_columns.proofs.Blocks.{block-found, block-passed, rest-is}
+use Rattle.id_columns.proofs.Blocks.{block-found, block-passed}
 use Rattle.id_columns.proofs.contains.Goals as goal
 
 pub returns-then-any_is : goal.returns-then-any_is
@@ -11,7 +11,3 @@ returns-then-any_is c =
 pub loop-i-preserved : goal.loop-i-preserved
 loop-i-preserved c =
     (search rules, c.loop-i.invariant.1 ∙ block-passed c.args.column.now c.args.id c.loop-i.i 32 c.any_is.result c.any_is.ensures c.if-any_is.false)
-
-pub returns : goal.returns
-returns c =
-    rest-is c.args.column.now c.args.id c.loop-i.i c.any_is-2.result c.any_is-2.ensures ∙ sym c.loop-i.invariant.1

@@ -3,9 +3,6 @@ use borrow.Author.Rules.{rules}
 use Rattle.id_columns.proofs.Blocks.{passed-more, place_found, place_none}
 use Rattle.id_columns.proofs.first_place.Goals as goal
 
-pub loop-place-init : goal.loop-place-init
-loop-place-init c = (c.skip-place.ensures.0, c.skip-place.ensures.1)
-
 pub returns-then-column-place : goal.returns-then-column-place
 returns-then-column-place c = search (rules, place_found)
 

@@ -3,9 +3,6 @@ use borrow.Author.Rules.{rules}
 use Rattle.model.proofs.Asked.{asked}
 use Rattle.model.proofs.len.Goals as goal
 
-pub refusal-refused-requires : goal.refusal-refused-requires
-refusal-refused-requires c = search (rules, asked)
-
 pub returns-then-refused-ne0 : goal.returns-then-refused-ne0
 returns-then-refused-ne0 c = search (rules, asked)
 

@@ -9,14 +9,8 @@ returns-then-states-ids c = search (rules, refusals)
 pub returns-then-torn-ids : goal.returns-then-torn-ids
 returns-then-torn-ids c = search (rules, refusals)
 
-pub all_up_to-requires : goal.all_up_to-requires
-all_up_to-requires c = search (rules, refusals)
-
 pub returns-then-not-all_up_to : goal.returns-then-not-all_up_to
 returns-then-not-all_up_to c = search (rules, refusals)
-
-pub all_up_to-requires-2 : goal.all_up_to-requires-2
-all_up_to-requires-2 c = search (rules, refusals)
 
 pub returns-then-not-all_up_to-2 : goal.returns-then-not-all_up_to-2
 returns-then-not-all_up_to-2 c = search (rules, refusals)
