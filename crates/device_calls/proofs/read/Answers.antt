@@ -1,8 +1,6 @@
 -- `device_calls::read` meets its contract: refused, the buffer is as it was; accepted, it is the part of the media. Assumes nothing.
-use mathlib.Core.Path.{sym, ap, ◌∙◌}
 use Prim.Native.Nat.{◌+◌, ◌≤◌}
 use lib.ListN.{length}
-use Rattle.basics.proofs.Parts.{part-lent, length_part}
 use Rattle.device_calls.proofs.Replies.{read-refused, read_fits, read-accepted}
 use Rattle.device_calls.proofs.read.Goals as goal
 use Rattle.device_calls.proofs.read.Goals.{In_default}
@@ -17,12 +15,6 @@ pub returns-in-Refused : goal.returns-in-Refused
 returns-in-Refused c =
     let start = c.args in
     read-refused start.geometry start.media.now start.offset start.dst.now _ c.check_read-checked.ensures _ c.in-Refused.is
-
-pub copy_cells-requires : goal.copy_cells-requires
-copy_cells-requires c =
-    let start = c.args in
-    sym (ap length (part-lent start.media.now start.offset (length start.dst.now) (fits (goal.at.copy_cells-requires c).In_default))
-    ∙ length_part start.media.now start.offset (length start.dst.now) (fits (goal.at.copy_cells-requires c).In_default))
 
 pub returns : goal.returns
 returns c =

@@ -7,7 +7,7 @@ use lib.ListN.{length}
 use borrow.Author.Rules.{rules}
 use borrow.Author.Tests.{eq-eqb, ne_eqb}
 use Rattle.device.specs.Media.{any_pair, unequal}
-use Rattle.device.proofs.Pairs.{any-yes, any-no, any-all}
+use Rattle.device.proofs.Pairs.{any-yes, any-no}
 use Rattle.device_questions.proofs.any_differ.Goals as goal
 use Rattle.device_questions.proofs.any_differ.Goals.{then-cells-i, else-cells-i}
 
@@ -28,10 +28,3 @@ loop-i-preserved c =
         | else-cells-i w ↦ w.found-is ∙ c.loop-i.invariant.1 ∙ sym (any-no unequal xs ys i h k (ap not (eq-eqb _ _ w.if-cells-i.false)))
       ],
     )
-
-pub returns : goal.returns
-returns c =
-    let xs = c.args.cells.now in
-    let ys = c.args.expected.now in
-    let i = c.loop-i.i in
-    c.loop-i.invariant.1 ∙ any-all unequal xs ys i (omega arith) (omega arith)

@@ -7,7 +7,7 @@ use lib.ListN.{length}
 use borrow.Author.Rules.{rules}
 use borrow.Author.Tests.{eq-eqb, ne_eqb}
 use Rattle.device.specs.Media.{any_pair, sets_a_bit}
-use Rattle.device.proofs.Pairs.{any-yes, any-no, any-all}
+use Rattle.device.proofs.Pairs.{any-yes, any-no}
 use Rattle.device_questions.proofs.any_sets.Goals as goal
 use Rattle.device_questions.proofs.any_sets.Goals.{then-wanted-cells, else-wanted-cells}
 
@@ -28,10 +28,3 @@ loop-i-preserved c =
         | else-wanted-cells w ↦ w.found-is ∙ c.loop-i.invariant.1 ∙ sym (any-no sets_a_bit xs ys i h k (ap not (eq-eqb _ _ w.if-wanted-cells.false)))
       ],
     )
-
-pub returns : goal.returns
-returns c =
-    let xs = c.args.cells.now in
-    let ys = c.args.src.now in
-    let i = c.loop-i.i in
-    c.loop-i.invariant.1 ∙ any-all sets_a_bit xs ys i (omega arith) (omega arith)

@@ -5,7 +5,6 @@ use mathlib.Core.List.{List}
 use Prim.Native.Nat.{ℕ, ◌+◌, ◌<◌}
 use native.Mathlib.Omega.{arith}
 use lib.ListN.{length, get_or, drop, length-set}
-use borrow.Author.Rules.{rules}
 use Rattle.model.specs.Columns.{entry_of, ledger_of}
 use Rattle.history.specs.History.{is_kept, suggested}
 use Rattle.history.proofs.Kept.{kept_row, left-row, kept-end, Turn, kept-turn, kept-all}
@@ -26,18 +25,9 @@ turn c m e h t =
     (suggested (drop (c.loop-row.row + 1) (ledger_of c.args.ids.now c.args.states.now c.args.torn.now)))
     (c.loop-row.invariant.4 ∙ kept_row c.args.ids.now c.args.states.now c.args.torn.now c.requires.0 c.requires.1 c.loop-row.row m e h t)
 
-pub offset_bounds-column-n : goal.offset_bounds-column-n
-offset_bounds-column-n c =
-    let b : c.loop-row.n < length c.loop-row.column = omega (arith, (turn (goal.at.offset_bounds-column-n c).At-loop-row _ c.is_kept-kept.ensures (omega arith) c.if-kept.true).below) in
-    search rules
-
 pub bounds-column-n : goal.bounds-column-n
 bounds-column-n c =
     omega (arith, (turn (goal.at.bounds-column-n c).At-loop-row _ c.is_kept-kept.ensures (omega arith) c.if-kept.true).below)
-
-pub overflow_add-n : goal.overflow_add-n
-overflow_add-n c =
-    omega (arith, (turn (goal.at.overflow_add-n c).At-loop-row _ c.is_kept-kept.ensures (omega arith) c.if-kept.true).below)
 
 pub loop-row-preserved : goal.loop-row-preserved
 loop-row-preserved c =

@@ -4,7 +4,6 @@ use mathlib.Core.Path.{◌∙◌}
 use Prim.Native.Nat.{◌≤◌, ◌<◌}
 use native.Mathlib.Omega.{arith}
 use lib.ListN.{length, get_or, length-set}
-use borrow.Author.Rules.{rules}
 use Rattle.model.proofs.Rows.{from-left}
 use Rattle.ids_by_state.proofs.Fills.{Turn, fill-turn, fill_end}
 use Rattle.ids_by_state.proofs.fill_from.Goals as goal
@@ -16,18 +15,9 @@ turn : (c : goal.At-loop-row) → c.loop-row.row < length c.args.ids.now → c.a
 turn c h t = fill-turn c.args.least c.args.ids.now c.args.states.now c.args.column.now c.loop-row.column c.loop-row.n c.loop-row.row
     c.requires.0 c.requires.1 c.loop-row.invariant.3 c.loop-row.invariant.4 h t
 
-pub offset_bounds-column-n : goal.offset_bounds-column-n
-offset_bounds-column-n c =
-    let b : c.loop-row.n < length c.loop-row.column = omega (arith, (turn (goal.at.offset_bounds-column-n c).At-loop-row (omega arith) c.if-least-states.true).below) in
-    search rules
-
 pub bounds-column-n : goal.bounds-column-n
 bounds-column-n c =
     omega (arith, (turn (goal.at.bounds-column-n c).At-loop-row (omega arith) c.if-least-states.true).below)
-
-pub overflow_add-n : goal.overflow_add-n
-overflow_add-n c =
-    omega (arith, (turn (goal.at.overflow_add-n c).At-loop-row (omega arith) c.if-least-states.true).below)
 
 pub loop-row-preserved : goal.loop-row-preserved
 loop-row-preserved c =

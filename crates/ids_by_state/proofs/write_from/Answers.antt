@@ -3,9 +3,6 @@ use borrow.Author.Rules.{rules}
 use Rattle.ids_by_state.proofs.Asked.{asked}
 use Rattle.ids_by_state.proofs.write_from.Goals as goal
 
-pub refusal-number-requires : goal.refusal-number-requires
-refusal-number-requires c = search (rules, asked)
-
 pub returns-then-number-ne0 : goal.returns-then-number-ne0
 returns-then-number-ne0 c = search (rules, asked)
 

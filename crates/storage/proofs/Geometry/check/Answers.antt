@@ -1,6 +1,5 @@
 -- `storage::Geometry::check` meets its contract: each way out is one row of the definition's tests. Assumes nothing.
-use borrow.Author.Tests.{not-false}
-use Rattle.storage.proofs.Checks.{refused-zero, refused-power, refused-nesting, accepted, none-of-three}
+use Rattle.storage.proofs.Checks.{refused-zero, refused-power, refused-nesting, accepted}
 use Rattle.storage.proofs.Geometry.check.Goals as goal
 
 pub returns-then-capacity-erase : goal.returns-then-capacity-erase
@@ -8,9 +7,6 @@ returns-then-capacity-erase c = rw (refused-zero c.args.self c.if-capacity-erase
 
 pub returns-then-erase_ones-program_ones : goal.returns-then-erase_ones-program_ones
 returns-then-erase_ones-program_ones c = rw (refused-power c.args.self c.if-capacity-erase.false c.if-erase_ones-program_ones.true)
-
-pub is_multiple-whole_blocks-requires : goal.is_multiple-whole_blocks-requires
-is_multiple-whole_blocks-requires c = not-false _ (none-of-three _ _ _ c.if-erase_ones-program_ones.false).0
 
 pub returns-then-whole_blocks-erase : goal.returns-then-whole_blocks-erase
 returns-then-whole_blocks-erase c =

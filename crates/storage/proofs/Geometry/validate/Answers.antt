@@ -24,14 +24,8 @@ length_whole c = sym c.is_multiple-2.ensures ∙ c.if-not-is_multiple-2.false
 pub returns-in-Illegal : goal.returns-in-Illegal
 returns-in-Illegal c = span-illegal _ _ c.check-checked.ensures _ c.in-Illegal.is _ _ _
 
-pub is_multiple-requires : goal.is_multiple-requires
-is_multiple-requires c = c.requires (sound (goal.at.is_multiple-requires c).In_default)
-
 pub returns-then-not-is_multiple : goal.returns-then-not-is_multiple
 returns-then-not-is_multiple c = rw (span-offset _ _ _ _ (sound (goal.at.returns-then-not-is_multiple c).In_default) (sym c.is_multiple.ensures ∙ c.if-not-is_multiple.true))
-
-pub is_multiple-requires-2 : goal.is_multiple-requires-2
-is_multiple-requires-2 c = c.requires (sound (goal.at.is_multiple-requires-2 c).In_default)
 
 pub returns-then-not-is_multiple-2 : goal.returns-then-not-is_multiple-2
 returns-then-not-is_multiple-2 c =
