@@ -1,6 +1,8 @@
 -- What a verdict 0 means.
 --     accepts-exactly     the verdict on any list of entries accepts exactly if the recovery is legal
+--     zero-exactly        the same by its number
 --     twice-first         a ledger that names one id twice answers 31, whatever else is wrong
+--     accepts-columns     the same of `verify_oracle`: it accepts exactly if the columns hold a ledger and the recovery is legal
 --     acceptance          both, of the columns that `verify_oracle` is lent and of its number
 -- Assumes nothing.
 use mathlib.Core.Path.{◌≡◌, refl, sym, ap, subst, ◌∙◌}
@@ -93,7 +95,10 @@ module _ (l : List Entry) (h d : List ℕ) (b : Banks) where
   pub accepts-exactly : (verdict l h d b ≡ Accepted) ↔ Legal l h d b
   accepts-exactly = (legal-of, accepted-of)
 
-  twice-first : (Distinct (ids l) → ⊥) → number_of (verdict l h d b) ≡ 31
+  pub zero-exactly : (number_of (verdict l h d b) ≡ 0) ↔ Legal l h d b
+  zero-exactly = ((λ e. legal-of (number-zero (verdict l h d b) e)), λ g. sym (number-0 (verdict l h d b) (accepted-of g)))
+
+  pub twice-first : (Distinct (ids l) → ⊥) → number_of (verdict l h d b) ≡ 31
   unfolding verdict
   twice-first n =
       ⊎_elim
@@ -133,3 +138,6 @@ module _ (is ss ts h d : List ℕ) (b : Banks) where
         let z : Sound is ss ts = refused_none is ss ts e in
         ap number_of (held-is e) ∙ twice-first l h d b (λ w. n (subst Distinct (ids-are is ss ts z.states z.torns) w));
   }
+
+  pub accepts-columns : (verified is ss ts h d b ≡ Accepted) ↔ ((refused is ss ts ≡ 0) × Legal (ledger_of is ss ts) h d b)
+  accepts-columns = (columns-legal, λ g. held-is g.0 ∙ accepted-of l h d b g.1)

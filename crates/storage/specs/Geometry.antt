@@ -14,7 +14,7 @@ geometry_of capacity erase program read =
 abbrev pub any_zero : Geometry → Bool
 any_zero g = eqb g.capacity 0 || eqb g.erase_size 0 || eqb g.program_size 0 || eqb g.read_size 0
 
--- "A unit is a power of two exactly if just one bit is set." (`one_bit` in proofs/Powers.antt: exactly if it is 2 ^ k for a k)
+-- "A unit is a power of two exactly if just one bit is set." (`one-bit` in proofs/Powers.antt: exactly if it is 2 ^ k for a k)
 abbrev pub one_bit : ℕ → Bool
 one_bit unit = eqb (ones unit) 1
 
