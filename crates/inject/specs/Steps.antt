@@ -1,19 +1,19 @@
 -- How the points are found: a group's points from four numbers, a search that goes on from part to part. Definitions only;
 -- assumes nothing.
-use Rattle.std.specs.Prelude.{◌≡◌, List, [], ◌∷◌, ◌++◌, map, ℕ, zero, suc, ◌+◌, ◌*◌, ◌≤◌, ◌<◌, ◌^◌, length, get_or, replicate}
+use Rattle.std.specs.Prelude.{◌≡◌, List, [], ◌∷◌, ◌++◌, map, ℕ, zero, suc, ◌*◌, ◌≤◌, ◌<◌, ◌^◌, length, get_or, replicate}
 use Rattle.storage.specs.declared.Geometry.{Geometry}
 use Rattle.inject.specs.declared.Op.{Op}
 use Rattle.inject.specs.declared.Op.TheVariants.{Program, Erase, Barrier}
 use Rattle.inject.specs.declared.Progress.{Progress}
 use Rattle.inject.specs.declared.Progress.TheVariants.{None, Bytes, Whole}
 use Rattle.inject.specs.declared.Interruption.{Interruption}
-use Rattle.inject.specs.declared.Interruption.TheVariants.{Watchdog, Failure}
+use Rattle.inject.specs.declared.Interruption.TheVariants.{Watchdog}
 use Rattle.inject.specs.declared.Injection.{Injection}
 use Rattle.inject.specs.declared.Group.{Group}
 use Rattle.inject.specs.declared.Sought.{Sought}
 use Rattle.inject.specs.declared.Sought.TheVariants.{At, Past}
-use Rattle.inject.specs.Ops.{op_of, ops_of}
-use Rattle.inject.specs.Points.{progresses, point, under}
+use Rattle.inject.specs.Ops.{op_of}
+use Rattle.inject.specs.Points.{progresses, point}
 use Rattle.inject.specs.Answers.{most}
 
 -- ---- a list that is not refused

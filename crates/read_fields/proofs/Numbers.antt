@@ -1,8 +1,8 @@
 -- Numbers read digit by digit: what each turn of `digits` and each way out of it and of `read_number` answers.
 -- Assumes nothing.
-use mathlib.Core.Path.{◌≡◌, refl, ap, sym, ◌∙◌}
-use mathlib.Core.Bool.{Bool, true, false, not, cond, ◌&&◌}
-use mathlib.Core.List.{List, [], ◌∷◌, ◌++◌}
+use mathlib.Core.Path.{◌≡◌, refl, sym, ◌∙◌}
+use mathlib.Core.Bool.{Bool, true, false, cond, ◌&&◌}
+use mathlib.Core.List.{List, [], ◌∷◌}
 use Prim.Native.Nat.{ℕ, suc, ◌+◌, ◌-◌, ◌*◌, ◌≤◌, ◌<◌}
 use native.Mathlib.Nat.{add-zero}
 use native.Mathlib.Omega.{arith}
@@ -11,7 +11,7 @@ use lib.Dec.{eqb, leb}
 use borrow.Author.Tests.{eq-eqb, ne_eqb, le-leb, lt-leb, leb-true, leb-false}
 use Rattle.basics.proofs.Scans.{at-step}
 use Rattle.text.specs.Fields.{Field, field, missing, onto, field_to}
-use Rattle.text.specs.Numbers.{largest, is_digit, all_digits, value_from, value_of, zero_led, is_number, Decimal, number, none, number_of}
+use Rattle.text.specs.Numbers.{largest, is_digit, all_digits, value_from, is_number, number, none, number_of}
 use Rattle.text.proofs.Fields.{field_out, field-here, field_step}
 use Rattle.text.proofs.Numbers.{digit_low, digit-high, digit-is, not-led}
 use Rattle.read_fields.specs.declared.Number.{Number}

@@ -15,8 +15,8 @@ use Rattle.script.specs.Columns.{Columns}
 use Rattle.script.specs.Held.{call_from, rows_in, calls_in}
 use Rattle.threaded.specs.Threaded.{Session, Answered}
 use Rattle.steps.specs.Writer.{line_answered, Wrote, wrote}
-use Rattle.steps.specs.Step.{Task, call, unknown, task_from, step_answered}
-use Rattle.runner.specs.Run.{tasks_of, tasks_in, Outcome, turned, ran_rows}
+use Rattle.steps.specs.Step.{Task, call, task_from, step_answered}
+use Rattle.runner.specs.Run.{tasks_of, tasks_in, Outcome, ran_rows}
 
 pub and_both : (a b : Bool) → (a && b) ≡ true → (a ≡ true) × (b ≡ true)
 and_both true b h = (refl, h)

@@ -1,20 +1,20 @@
 -- A number as text: how many digits it has, the loop that writes them, and the part of a buffer that takes them.
 -- Assumes nothing.
 use mathlib.Core.Path.{◌≡◌, refl, ap, sym, ◌∙◌}
-use mathlib.Core.Bool.{Bool, true, false, not, cond, ◌&&◌}
+use mathlib.Core.Bool.{Bool, true, false, cond}
 use mathlib.Core.List.{List, [], ◌∷◌, ◌++◌, append-nil, append_assoc}
 use Prim.Native.Nat.{ℕ, zero, suc, ◌+◌, ◌-◌, ◌*◌, ◌/◌, ◌%◌, ◌^◌, ◌≤◌, ◌<◌}
 use native.Mathlib.Numerals.{add-one}
 use native.Mathlib.Omega.{arith}
-use lib.ListN.{length, get_or, set, take, drop, length-append, length-set}
+use lib.ListN.{length, set, drop, length-append, length-set}
 use lib.Seq.{drop-length, drop-cons, get_or-set_same, drop-set-lt}
-use lib.Dec.{eqb, ltb, leb}
-use borrow.Author.Tests.{eq-eqb, ne_eqb, lt-ltb, le-ltb, le-leb, lt-leb, ltb-true, ltb-false}
+use lib.Dec.{eqb, ltb}
+use borrow.Author.Tests.{ne_eqb, le-leb, lt-leb, ltb-true, ltb-false}
 use borrow.Rule.Slice.PartMut.{put_mid}
 use Rattle.basics.specs.Parts.{overlaid}
 use Rattle.basics.proofs.Parts.{part-back}
 use Rattle.text.specs.declared.Printed.TheVariants.{Next, NoRoom}
-use Rattle.text.specs.Numbers.{largest, is_digit, all_digits, value_from, value_of, zero_led, is_number, Decimal, number, none, number_of, decimal_in, decimal_of}
+use Rattle.text.specs.Numbers.{decimal_in, decimal_of}
 use Rattle.text.specs.Printing.{Places, Print, printed_at}
 
 -- ---- how many digits

@@ -7,7 +7,7 @@ use Prim.Native.Nat.{ℕ, ◌<◌, ◌≤◌}
 use native.Mathlib.Omega.{arith}
 use lib.Dec.{leb}
 use borrow.Author.Tests.{leb-true}
-use Rattle.text.specs.Numbers.{largest, is_digit, all_digits, value_of, zero_led, is_number, Decimal, number, none, number_of}
+use Rattle.text.specs.Numbers.{is_digit, all_digits, value_of, is_number, number, none, number_of}
 use Rattle.text.specs.Pairs.{is_letter, is_hex, all_hex}
 
 abbrev pub Plain : List ℕ → Type 0

@@ -3,16 +3,16 @@
 --     decimal-read     a u32 in decimal is that number
 --     pairs-are, pairs-read    bytes as pairs are pairs, and stand for the bytes
 -- Assumes nothing.
-use mathlib.Core.Path.{◌≡◌, refl, ap, sym, ◌∙◌}
-use mathlib.Core.Bool.{Bool, true, false, not, cond, ◌&&◌, ◌||◌}
+use mathlib.Core.Path.{◌≡◌, refl, ap, ◌∙◌}
+use mathlib.Core.Bool.{Bool, true, false, cond, ◌&&◌}
 use mathlib.Core.List.{List, [], ◌∷◌, ◌++◌}
 use Prim.Native.Nat.{ℕ, zero, suc, ◌+◌, ◌-◌, ◌*◌, ◌/◌, ◌%◌, ◌^◌, ◌≤◌, ◌<◌}
 use native.Mathlib.Omega.{arith}
 use lib.ListN.{length}
-use lib.Dec.{eqb, ltb, leb}
-use borrow.Author.Tests.{eq-eqb, ne_eqb, le-leb, lt-leb, ltb-true, ltb-false}
-use Rattle.text.specs.Numbers.{largest, is_digit, all_digits, value_from, value_of, zero_led, is_number, Decimal, number, none, number_of, decimal_in, decimal_of}
-use Rattle.text.specs.Pairs.{is_letter, is_hex, all_hex, is_pairs, hex_of, pair_values, AllBytes, hex_digit, pairs_text}
+use lib.Dec.{ltb}
+use borrow.Author.Tests.{eq-eqb, le-leb, lt-leb, ltb-true, ltb-false}
+use Rattle.text.specs.Numbers.{largest, is_digit, all_digits, value_from, value_of, zero_led, is_number, number, number_of, decimal_in, decimal_of}
+use Rattle.text.specs.Pairs.{is_letter, is_hex, all_hex, is_pairs, hex_of, pair_values, AllBytes, pairs_text}
 use Rattle.text.proofs.Plain.{Plain, digits-plain, hex-plain}
 use Rattle.text.proofs.Numbers.{digit-is, not-led}
 use Rattle.text.proofs.Decimals.{tens}

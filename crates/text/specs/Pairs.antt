@@ -1,6 +1,6 @@
 -- Document 01, "Scripts and the two programs": "bytes (lower-case hexadecimal pairs ..)".
 -- Definitions only; assumes nothing.
-use Rattle.std.specs.Prelude.{Bool, true, false, cond, ◌&&◌, ◌||◌, List, [], ◌∷◌, ◌++◌, ℕ, ◌+◌, ◌-◌, ◌*◌, ◌/◌, ◌%◌, ◌<◌, length, drop, eqb, leb, ltb}
+use Rattle.std.specs.Prelude.{Bool, true, cond, ◌&&◌, ◌||◌, List, [], ◌∷◌, ◌++◌, ℕ, ◌+◌, ◌-◌, ◌*◌, ◌/◌, ◌%◌, ◌<◌, length, drop, eqb, leb, ltb}
 use Rattle.text.specs.Numbers.{is_digit}
 
 -- the bytes 'a' to 'f'

@@ -1,5 +1,4 @@
 -- `armed_runs::free_run` meets its contract: one way for each answer. Assumes nothing.
-use borrow.Author.Rules.{rules}
 use Rattle.armed_runs.proofs.free_run.Goals as goal
 
 pub returns-in-Points : goal.returns-in-Points

@@ -1,6 +1,5 @@
 -- `armed_runs::point_at` meets its contract: nothing in run 0, then the crash point before its place. Assumes nothing.
 use Rattle.armed_runs.proofs.Places.{place-first, place_found, place_none}
-use borrow.Author.Rules.{rules}
 use Rattle.armed_runs.proofs.point_at.Goals as goal
 
 pub returns-then-place-eq0 : goal.returns-then-place-eq0

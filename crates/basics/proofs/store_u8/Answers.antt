@@ -1,7 +1,6 @@
 -- `basics::store_u8` meets its contract: a store past the end is `set` past the end, which changes nothing. Assumes nothing.
 use mathlib.Core.Path.{sym}
 use lib.Seq.{set_out}
-use borrow.Author.Rules.{rules}
 use Rattle.basics.proofs.store_u8.Goals as goal
 
 pub returns-else-at-bytes : goal.returns-else-at-bytes

@@ -1,11 +1,8 @@
 -- `inject::all_known` meets its contract. The invariant: whether all codes are known is whether those from `i` on are. Assumes nothing.
-use mathlib.Core.Path.{◌≡◌, refl, sym, ◌∙◌}
+use mathlib.Core.Path.{◌≡◌}
 use Prim.Native.Nat.{◌-◌, ◌≤◌}
-use native.Mathlib.Omega.{arith}
 use lib.ListN.{length, drop}
-use borrow.Author.Tests.{lt-ltb, le-ltb}
 use Rattle.inject.specs.Ops.{known}
-use Rattle.inject.proofs.Rests.{known-cons, known-end}
 use Rattle.inject.proofs.all_known.Given as goal
 
 abbrev pub invariant-loop-i : goal.invariant-loop-i

@@ -1,5 +1,4 @@
 -- `inject::count` meets its contract: the opening point and the lengths of the four parts. Assumes nothing.
-use borrow.Author.Rules.{rules}
 use Rattle.inject.proofs.Whole.{whole-count}
 use Rattle.inject.proofs.count.Goals as goal
 

@@ -1,6 +1,5 @@
 -- `inject::count_beside` meets its contract: the number that refuses, or the count of the points. Assumes nothing.
 use mathlib.Core.Path.{sym, ◌∙◌}
-use borrow.Author.Rules.{rules}
 use Rattle.inject.proofs.Refusals.{passes}
 use Rattle.inject.proofs.Whole.{count-refused, count-taken}
 use Rattle.inject.proofs.count_beside.Goals as goal

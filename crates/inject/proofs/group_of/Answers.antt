@@ -1,5 +1,4 @@
 -- `inject::group_of` meets its contract: the row's operation, and each arm's numbers stand for the interruption's none, byte and whole points. Assumes nothing.
-use borrow.Author.Rules.{rules}
 use Rattle.inject.proofs.Groups.{of_row, made-lost, made-reset, made-failed}
 use Rattle.inject.proofs.group_of.Goals as goal
 

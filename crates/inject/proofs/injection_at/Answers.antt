@@ -1,6 +1,5 @@
 -- `inject::injection_at` meets its contract: the number that refuses, or one search through the list's five parts. Assumes nothing.
 use mathlib.Core.Path.{◌≡◌, sym, ◌∙◌}
-use borrow.Author.Rules.{rules}
 use Rattle.inject.specs.Answers.{points_of}
 use Rattle.inject.specs.Steps.{Sound, sought}
 use Rattle.inject.proofs.Refusals.{passes}

@@ -1,7 +1,6 @@
 -- `inject::progress_at` meets its contract: the place lies among the none points, the byte points or the whole points. Assumes nothing.
 use mathlib.Core.Path.{sym}
 use native.Mathlib.Omega.{arith}
-use borrow.Author.Rules.{rules}
 use Rattle.inject.proofs.Groups.{grouped-none, grouped-bytes, grouped-whole, bytes_fit}
 use Rattle.inject.proofs.progress_at.Goals as goal
 

@@ -1,6 +1,5 @@
 -- `inject::refuse` meets its contract: each way out is one row of the definition's tests. Assumes nothing.
 use mathlib.Core.Path.{◌≡◌, sym, ap, ◌∙◌}
-use borrow.Author.Rules.{rules}
 use borrow.Author.Tests.{not-true, not-false}
 use Rattle.storage.specs.Geometry.{geometry_test}
 use Rattle.storage.specs.Answers.{number_of_validated}

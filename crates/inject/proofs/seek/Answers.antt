@@ -1,5 +1,4 @@
 -- `inject::seek` meets its contract: what was found stays; else the search goes on in the operations' points. Assumes nothing.
-use borrow.Author.Rules.{rules}
 use Rattle.inject.proofs.seek.Goals as goal
 
 pub returns-in-At : goal.returns-in-At

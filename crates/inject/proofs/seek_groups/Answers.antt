@@ -1,16 +1,12 @@
 -- `inject::seek_groups` meets its contract. The invariant: what is left of the place, sought from row `i` on, is the place sought in the
 -- whole. Assumes nothing.
-use mathlib.Core.Path.{◌≡◌, refl, sym, ap, ◌∙◌}
-use Prim.Native.Nat.{◌-◌, ◌≤◌}
+use mathlib.Core.Path.{refl, sym, ap, ◌∙◌}
 use native.Mathlib.Omega.{arith}
-use lib.ListN.{length}
-use borrow.Author.Rules.{rules}
 use Rattle.inject.specs.declared.Progress.{Progress}
 use Rattle.inject.specs.declared.Sought.TheVariants.{At}
-use Rattle.inject.specs.Ops.{ops_of}
-use Rattle.inject.specs.Points.{under, point}
+use Rattle.inject.specs.Points.{point}
 use Rattle.inject.specs.Steps.{sought}
-use Rattle.inject.proofs.Rests.{rest, rest_in, rest-past, rest_end}
+use Rattle.inject.proofs.Rests.{rest_in, rest-past, rest_end}
 use Rattle.inject.proofs.seek_groups.Goals as goal
 
 pub loop-i-init : goal.loop-i-init

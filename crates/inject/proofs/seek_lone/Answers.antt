@@ -1,5 +1,4 @@
 -- `inject::seek_lone` meets its contract: a list with operations has no such point. Assumes nothing.
-use borrow.Author.Rules.{rules}
 use Rattle.inject.proofs.Searches.{onward-none}
 use Rattle.inject.proofs.seek_lone.Goals as goal
 

@@ -1,5 +1,4 @@
 -- `inject::seek_one` meets its contract: what was found stays, place 0 is the point, any other place lies past it. Assumes nothing.
-use borrow.Author.Rules.{rules}
 use Rattle.inject.proofs.Searches.{onward-one, onward-two}
 use Rattle.inject.proofs.seek_one.Goals as goal
 

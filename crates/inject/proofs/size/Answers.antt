@@ -1,7 +1,6 @@
 -- `inject::size` meets its contract: the none points, the byte points and the whole points. Assumes nothing.
 use mathlib.Core.Path.{sym}
 use native.Mathlib.Omega.{arith}
-use borrow.Author.Rules.{rules}
 use Rattle.inject.proofs.Groups.{length-grouped}
 use Rattle.inject.proofs.size.Goals as goal
 

@@ -1,12 +1,8 @@
 -- `inject::total` meets its contract. The invariant: the sum so far and the points from row `i` on make the whole. Assumes nothing.
-use mathlib.Core.Path.{◌≡◌, ap}
-use Prim.Native.Nat.{◌+◌, ◌*◌, ◌-◌, ◌≤◌}
+use mathlib.Core.Path.{ap}
 use native.Mathlib.Omega.{arith}
 use lib.ListN.{length}
-use borrow.Author.Rules.{rules}
-use Rattle.inject.specs.Ops.{ops_of}
-use Rattle.inject.specs.Points.{under}
-use Rattle.inject.proofs.Rests.{rest, rest-length, rest_end}
+use Rattle.inject.proofs.Rests.{rest-length, rest_end}
 use Rattle.inject.proofs.total.Goals as goal
 
 pub loop-i-init : goal.loop-i-init

@@ -1,12 +1,10 @@
 -- `inject::total` meets its contract. The invariant: the sum so far and the points from row `i` on make the whole. Assumes nothing.
-use mathlib.Core.Path.{◌≡◌, ap}
+use mathlib.Core.Path.{◌≡◌}
 use Prim.Native.Nat.{◌+◌, ◌*◌, ◌-◌, ◌≤◌}
-use native.Mathlib.Omega.{arith}
 use lib.ListN.{length}
-use borrow.Author.Rules.{rules}
 use Rattle.inject.specs.Ops.{ops_of}
 use Rattle.inject.specs.Points.{under}
-use Rattle.inject.proofs.Rests.{rest, rest-length, rest_end}
+use Rattle.inject.proofs.Rests.{rest}
 use Rattle.inject.proofs.total.Given as goal
 
 abbrev pub invariant-loop-i : goal.invariant-loop-i

@@ -1,6 +1,5 @@
 -- `inject::whole_span` meets its contract: a span of no bytes has no whole point, any other has one. Assumes nothing.
 use native.Mathlib.Omega.{arith}
-use borrow.Author.Rules.{rules}
 use Rattle.inject.proofs.Groups.{one-whole}
 use Rattle.inject.proofs.whole_span.Goals as goal
 

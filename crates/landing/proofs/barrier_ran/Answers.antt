@@ -1,5 +1,4 @@
 -- `landing::barrier_ran` meets its contract, case by case. Assumes nothing.
-use borrow.Author.Rules.{rules}
 use Rattle.landing.proofs.barrier_ran.Goals as goal
 
 pub returns-in-Bytes : goal.returns-in-Bytes

@@ -1,7 +1,6 @@
 -- `landing::ending_of` meets its contract: the table's row is the definition's case. Assumes nothing.
 use native.Mathlib.Omega.{arith}
 use Rattle.landing.proofs.Table.{row_below, table-right}
-use borrow.Author.Rules.{rules}
 use Rattle.landing.proofs.ending_of.Goals as goal
 
 pub offset_bounds-row : goal.offset_bounds-row

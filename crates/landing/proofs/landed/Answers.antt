@@ -1,6 +1,5 @@
 -- `landing::landed` meets its contract: a count below the length is the lesser of the two. Assumes nothing.
 use native.Mathlib.Omega.{arith}
-use borrow.Author.Rules.{rules}
 use Rattle.landing.proofs.landed.Goals as goal
 
 pub returns-then-bytes-len : goal.returns-then-bytes-len

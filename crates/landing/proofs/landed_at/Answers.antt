@@ -1,5 +1,4 @@
 -- `landing::landed_at` meets its contract, interruption by interruption. Assumes nothing.
-use borrow.Author.Rules.{rules}
 use Rattle.landing.proofs.landed_at.Goals as goal
 
 pub returns-in-PowerLoss : goal.returns-in-PowerLoss

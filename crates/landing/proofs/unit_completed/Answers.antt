@@ -4,7 +4,6 @@ use native.Mathlib.Nat.{div-mul-le_self}
 use native.Mathlib.Omega.{arith}
 use borrow.Author.Tests.{eq-eqb, ne_eqb}
 use Rattle.landing.specs.Landed.{rounded_up}
-use borrow.Author.Rules.{rules}
 use Rattle.landing.proofs.unit_completed.Goals as goal
 
 pub returns-then-unit-eq0 : goal.returns-then-unit-eq0

@@ -1,11 +1,7 @@
 -- `lines::ids_fit` meets its contract: the fields of the ids from `i` on are to fit into what is left. Assumes nothing.
-use mathlib.Core.Path.{◌≡◌}
 use mathlib.Core.List.{flatten, map}
-use Prim.Native.Nat.{◌+◌, ◌-◌, ◌≤◌}
 use native.Mathlib.Omega.{arith}
-use lib.ListN.{length, drop}
-use lib.Dec.{leb}
-use borrow.Author.Rules.{rules}
+use lib.ListN.{length}
 use Rattle.text.specs.Numbers.{decimal_of}
 use Rattle.pieces.specs.Pieces.{tabbed}
 use Rattle.pieces.proofs.Rooms.{fit-not, fit-start, fit-room, fit-more, fit-out, fit-end}

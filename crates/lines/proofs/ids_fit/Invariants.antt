@@ -2,14 +2,10 @@
 use mathlib.Core.Path.{◌≡◌}
 use mathlib.Core.List.{flatten, map}
 use Prim.Native.Nat.{◌+◌, ◌-◌, ◌≤◌}
-use native.Mathlib.Omega.{arith}
 use lib.ListN.{length, drop}
 use lib.Dec.{leb}
-use borrow.Author.Rules.{rules}
 use Rattle.text.specs.Numbers.{decimal_of}
 use Rattle.pieces.specs.Pieces.{tabbed}
-use Rattle.pieces.proofs.Rooms.{fit-not, fit-start, fit-room, fit-more, fit-out, fit-end}
-use Rattle.lines.proofs.Ids.{ids-size, ids-size-end}
 use Rattle.lines.proofs.ids_fit.Given as goal
 
 abbrev pub invariant-loop-i : goal.invariant-loop-i

@@ -1,5 +1,4 @@
 -- `lines::judge_line` meets its contract. Assumes nothing.
-use borrow.Author.Rules.{rules}
 use Rattle.lines.proofs.Ways.{judge-short, judge-done}
 use Rattle.lines.proofs.judge_line.Goals as goal
 

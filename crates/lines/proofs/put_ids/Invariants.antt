@@ -1,13 +1,10 @@
 -- `lines::put_ids` meets its contract: the ids from `row` on are still to be written. Assumes nothing.
-use mathlib.Core.Path.{◌≡◌, refl, ◌∙◌}
+use mathlib.Core.Path.{◌≡◌}
 use mathlib.Core.List.{map}
 use Prim.Native.Nat.{◌-◌, ◌≤◌}
-use native.Mathlib.Omega.{arith}
 use lib.ListN.{length, drop}
-use borrow.Author.Rules.{rules}
 use Rattle.text.specs.Numbers.{decimal_of}
 use Rattle.pieces.specs.Pieces.{cursor, after_all, tabbed}
-use Rattle.lines.proofs.Ids.{ids-put, ids-put-end}
 use Rattle.lines.proofs.put_ids.Given as goal
 
 abbrev pub invariant-loop-row : goal.invariant-loop-row

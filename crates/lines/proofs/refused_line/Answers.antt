@@ -1,5 +1,4 @@
 -- `lines::refused_line` meets its contract. Assumes nothing.
-use borrow.Author.Rules.{rules}
 use Rattle.lines.proofs.Ways.{refused-short, refused-done}
 use Rattle.lines.proofs.refused_line.Goals as goal
 

@@ -1,5 +1,4 @@
 -- `lines::runs_line` meets its contract. Assumes nothing.
-use borrow.Author.Rules.{rules}
 use Rattle.lines.proofs.Ways.{runs-short, runs_done}
 use Rattle.lines.proofs.runs_line.Goals as goal
 

@@ -1,5 +1,4 @@
 -- `pieces::put_field` meets its contract. Assumes nothing.
-use borrow.Author.Rules.{rules}
 use Rattle.pieces.proofs.Cursors.{two-pieces}
 use Rattle.pieces.proofs.put_field.Goals as goal
 

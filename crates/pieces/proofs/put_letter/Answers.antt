@@ -1,5 +1,4 @@
 -- `pieces::put_letter` meets its contract. Assumes nothing.
-use borrow.Author.Rules.{rules}
 use Rattle.pieces.proofs.Cursors.{two-pieces}
 use Rattle.pieces.proofs.put_letter.Goals as goal
 

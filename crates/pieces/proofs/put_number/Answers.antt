@@ -1,5 +1,4 @@
 -- `pieces::put_number` meets its contract. Assumes nothing.
-use borrow.Author.Rules.{rules}
 use Rattle.pieces.proofs.Cursors.{number_put, no_number}
 use Rattle.pieces.proofs.put_number.Goals as goal
 

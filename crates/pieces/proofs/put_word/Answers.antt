@@ -1,10 +1,6 @@
 -- `pieces::put_word` meets its contract: the bytes from `i` on are still to be written. Assumes nothing.
-use mathlib.Core.Path.{◌≡◌, refl, ◌∙◌}
-use Prim.Native.Nat.{◌-◌, ◌≤◌}
+use mathlib.Core.Path.{refl, ◌∙◌}
 use native.Mathlib.Omega.{arith}
-use lib.ListN.{length, drop}
-use borrow.Author.Rules.{rules}
-use Rattle.pieces.specs.Pieces.{cursor, after_all, letters}
 use Rattle.pieces.proofs.Cursors.{word-put, word-put-end}
 use Rattle.pieces.proofs.put_word.Goals as goal
 

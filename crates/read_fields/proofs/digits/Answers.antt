@@ -1,9 +1,5 @@
 -- `read_fields::digits` meets its contract. The loop has not changed what is to be answered: it is what the digits from `i` on
 -- give, after digits of value `value`. Assumes nothing.
-use mathlib.Core.Path.{◌≡◌}
-use Prim.Native.Nat.{◌+◌, ◌-◌, ◌≤◌}
-use lib.ListN.{length, drop}
-use Rattle.read_fields.specs.Inner.{digits_at}
 use Rattle.read_fields.proofs.Numbers.{numbers}
 use borrow.Author.Rules.{rules}
 use Rattle.read_fields.proofs.digits.Goals as goal

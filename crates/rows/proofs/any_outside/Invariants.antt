@@ -1,11 +1,8 @@
 -- `rows::any_outside` meets its contract: what the rows not yet read say, the columns say. Assumes nothing.
 use mathlib.Core.Path.{◌≡◌}
 use Prim.Native.Nat.{◌-◌, ◌≤◌, min}
-use native.Mathlib.Omega.{arith}
 use lib.ListN.{length, drop}
-use borrow.Author.Rules.{rules}
 use Rattle.rows.specs.Rows.{any_outside}
-use Rattle.rows.proofs.Outside.{outside-found, outside-next, outside-none}
 use Rattle.rows.proofs.any_outside.Given as goal
 
 abbrev pub invariant-loop-i : goal.invariant-loop-i

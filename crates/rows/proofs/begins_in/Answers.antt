@@ -1,12 +1,10 @@
 -- `rows::begins_in` meets its contract: those found and those in the codes not yet read are all. Assumes nothing.
-use mathlib.Core.Path.{◌≡◌, sym, ap, ◌∙◌}
-use Prim.Native.Nat.{ℕ, ◌+◌, ◌-◌, ◌≤◌}
+use mathlib.Core.Path.{◌∙◌}
 use native.Mathlib.Omega.{arith}
 use mathlib.Core.Bool.{◌&&◌}
-use lib.ListN.{length, get_or, drop}
+use lib.ListN.{get_or}
 use lib.Dec.{eqb}
-use borrow.Author.Rules.{rules}
-use Rattle.rows.specs.Rows.{takes, begins_from}
+use Rattle.rows.specs.Rows.{takes}
 use Rattle.rows.proofs.Scanned.{begins-row, begins-all, flag-le}
 use Rattle.rows.proofs.begins_in.Goals as goal
 

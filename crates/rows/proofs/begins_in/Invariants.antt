@@ -1,13 +1,8 @@
 -- `rows::begins_in` meets its contract: those found and those in the codes not yet read are all. Assumes nothing.
-use mathlib.Core.Path.{◌≡◌, sym, ap, ◌∙◌}
-use Prim.Native.Nat.{ℕ, ◌+◌, ◌-◌, ◌≤◌}
-use native.Mathlib.Omega.{arith}
-use mathlib.Core.Bool.{◌&&◌}
-use lib.ListN.{length, get_or, drop}
-use lib.Dec.{eqb}
-use borrow.Author.Rules.{rules}
-use Rattle.rows.specs.Rows.{takes, begins_from}
-use Rattle.rows.proofs.Scanned.{begins-row, begins-all, flag-le}
+use mathlib.Core.Path.{◌≡◌}
+use Prim.Native.Nat.{◌+◌, ◌-◌, ◌≤◌}
+use lib.ListN.{length, drop}
+use Rattle.rows.specs.Rows.{begins_from}
 use Rattle.rows.proofs.begins_in.Given as goal
 
 abbrev pub invariant-loop-i : goal.invariant-loop-i

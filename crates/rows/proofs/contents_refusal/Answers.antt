@@ -1,9 +1,8 @@
 -- `rows::contents_refusal` meets its contract: the first test that refuses. Assumes nothing.
-use mathlib.Core.Path.{sym, ◌∙◌}
+use mathlib.Core.Path.{sym}
 use native.Mathlib.Omega.{arith}
 use lib.Seq.{length-take-le}
 use Rattle.rows.proofs.Scanned.{content-unknown, content-short, content-fits}
-use borrow.Author.Rules.{rules}
 use Rattle.rows.proofs.contents_refusal.Goals as goal
 
 pub slice_bounds-all_up_to-end : goal.slice_bounds-all_up_to-end

@@ -1,7 +1,6 @@
 -- `rows::lengths_refusal` meets its contract: the first test that refuses. Assumes nothing.
 use Rattle.rows.proofs.Lengths.{length-units, length-sizes, length-uneven, length-even}
 use Rattle.storage.proofs.Numbers.{geometry-refusal}
-use borrow.Author.Rules.{rules}
 use Rattle.rows.proofs.lengths_refusal.Goals as goal
 
 pub returns-then-units-ne0 : goal.returns-then-units-ne0

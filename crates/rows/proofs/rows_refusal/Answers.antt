@@ -1,10 +1,7 @@
 -- `rows::rows_refusal` meets its contract: refused by a length, or what the rows hold tells. Assumes nothing.
-use mathlib.Core.Bool.{Bool}
-use Prim.Native.Nat.{ℕ}
 use Rattle.storage.specs.declared.Geometry.{Geometry}
 use Rattle.script.specs.Columns.{Columns, columns}
 use Rattle.rows.proofs.Numbers.{lengths-refuse, lengths-pass, contents-tell}
-use borrow.Author.Rules.{rules}
 use Rattle.rows.proofs.rows_refusal.Goals as goal
 use Rattle.rows.proofs.rows_refusal.Goals.{Start}
 

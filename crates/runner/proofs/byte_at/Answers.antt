@@ -1,6 +1,5 @@
 -- `runner::byte_at` meets its contract. Assumes nothing.
 use Rattle.runner.proofs.Places.{past_end}
-use borrow.Author.Rules.{rules}
 use Rattle.runner.proofs.byte_at.Goals as goal
 
 pub returns-else-at-bytes : goal.returns-else-at-bytes

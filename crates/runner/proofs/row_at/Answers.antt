@@ -1,5 +1,4 @@
 -- `runner::row_at` meets its contract. Assumes nothing.
-use borrow.Author.Rules.{rules}
 use Rattle.runner.proofs.row_at.Goals as goal
 
 pub returns : goal.returns

@@ -1,7 +1,6 @@
 -- `runner::rows_there` meets its contract. Assumes nothing.
-use mathlib.Core.Path.{◌≡◌, ◌∙◌}
-use Prim.Native.Nat.{ℕ, min}
-use borrow.Author.Rules.{rules}
+use mathlib.Core.Path.{◌∙◌}
+use Prim.Native.Nat.{min}
 use Rattle.runner.proofs.rows_there.Goals as goal
 
 pub returns : goal.returns

@@ -1,14 +1,12 @@
 -- `runner::run_rows` meets its contract: the rows not yet run leave what all leave. Assumes nothing.
-use mathlib.Core.Path.{◌≡◌, refl, ◌∙◌}
-use Prim.Native.Nat.{ℕ, ◌+◌, ◌-◌, ◌<◌}
-use native.Mathlib.Omega.{arith}
+use mathlib.Core.Path.{◌≡◌}
+use Prim.Native.Nat.{◌-◌}
 use lib.ListN.{length}
-use borrow.Author.Rules.{rules}
 use Rattle.session.specs.Log.{log_of, marks_of}
 use Rattle.steps.specs.Step.{session_of}
 use Rattle.script.specs.Columns.{columns}
 use Rattle.runner.specs.Run.{tasks_in, ran_rows, leaves}
-use Rattle.runner.proofs.Turns.{Left, left-first, left-turn, left-stop, left_end}
+use Rattle.runner.proofs.Turns.{Left}
 use Rattle.runner.proofs.run_rows.Given as goal
 
 abbrev pub invariant-loop-i : goal.invariant-loop-i

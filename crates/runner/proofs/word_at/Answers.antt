@@ -1,6 +1,5 @@
 -- `runner::word_at` meets its contract. Assumes nothing.
 use Rattle.runner.proofs.Places.{past_end}
-use borrow.Author.Rules.{rules}
 use Rattle.runner.proofs.word_at.Goals as goal
 
 pub returns-else-at-words : goal.returns-else-at-words

@@ -1,6 +1,5 @@
 -- `session::armed_for` meets its contract, case by case. Assumes nothing.
 use borrow.Author.Tests.{eq-eqb, ne_eqb}
-use borrow.Author.Rules.{rules}
 use Rattle.session.proofs.armed_for.Goals as goal
 
 pub returns-then-op-index : goal.returns-then-op-index

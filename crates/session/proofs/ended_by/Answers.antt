@@ -1,5 +1,4 @@
 -- `session::ended_by` meets its contract, case by case. Assumes nothing.
-use borrow.Author.Rules.{rules}
 use Rattle.session.proofs.ended_by.Goals as goal
 
 pub returns-in-Nothing : goal.returns-in-Nothing

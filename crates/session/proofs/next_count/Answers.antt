@@ -1,7 +1,6 @@
 -- `session::next_count` meets its contract: below the limit one more fits. Assumes nothing.
 use borrow.Author.Tests.{lt-ltb, le-ltb}
 use Rattle.session.specs.Armed.{next_count}
-use borrow.Author.Rules.{rules}
 use Rattle.session.proofs.next_count.Goals as goal
 
 pub returns-then-operations-lt-OPERATIONS : goal.returns-then-operations-lt-OPERATIONS

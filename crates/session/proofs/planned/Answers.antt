@@ -4,7 +4,6 @@ use Prim.Native.Nat.{ℕ, ◌-◌, ◌≤◌, ◌<◌}
 use native.Mathlib.Omega.{arith}
 use borrow.Author.Tests.{eq-eqb, ne_eqb}
 use Rattle.session.specs.Armed.{write_reply}
-use borrow.Author.Rules.{rules}
 use Rattle.session.proofs.planned.Goals as goal
 
 none_left : (len landed : ℕ) → len ≤ landed → len - landed ≡ 0

@@ -1,5 +1,4 @@
 -- `session::record` meets its contract: one store in each column. Assumes nothing.
-use borrow.Author.Rules.{rules}
 use Rattle.session.proofs.record.Goals as goal
 
 pub returns : goal.returns

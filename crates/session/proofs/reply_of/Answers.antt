@@ -1,5 +1,4 @@
 -- `session::reply_of` meets its contract. Assumes nothing.
-use borrow.Author.Rules.{rules}
 use Rattle.session.proofs.reply_of.Goals as goal
 
 pub returns : goal.returns

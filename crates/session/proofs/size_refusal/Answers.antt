@@ -1,7 +1,6 @@
 -- `session::size_refusal` meets its contract: both lengths are held to the capacity. Assumes nothing.
 use Rattle.basics.specs.Tests.{refuse_if}
 use Rattle.session.specs.Tests.{size_test}
-use borrow.Author.Rules.{rules}
 use Rattle.session.proofs.size_refusal.Goals as goal
 
 pub returns-then-media-capacity : goal.returns-then-media-capacity

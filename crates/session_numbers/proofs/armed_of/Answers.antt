@@ -1,6 +1,5 @@
 -- `session_numbers::armed_of` meets its contract: the test of the number is the test of the definition, and the injection is that of the numbers. Assumes nothing.
 use borrow.Author.Tests.{eq-eqb, ne_eqb}
-use borrow.Author.Rules.{rules}
 use Rattle.session_numbers.proofs.armed_of.Goals as goal
 
 pub returns-then-armed-eq0 : goal.returns-then-armed-eq0

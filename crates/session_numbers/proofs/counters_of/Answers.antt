@@ -1,6 +1,5 @@
 -- `session_numbers::counters_of` meets its contract: each field is that of its number. Assumes nothing.
 use Rattle.session_numbers.specs.Numbers.{counters_of}
-use borrow.Author.Rules.{rules}
 use Rattle.session_numbers.proofs.counters_of.Goals as goal
 
 pub returns : goal.returns

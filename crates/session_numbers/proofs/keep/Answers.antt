@@ -1,6 +1,5 @@
 -- `session_numbers::keep` meets its contract: each of the six calls stores one of the counters. Assumes nothing.
 use Rattle.session_numbers.specs.Numbers.{counters_in}
-use borrow.Author.Rules.{rules}
 use Rattle.session_numbers.proofs.keep.Goals as goal
 
 pub returns : goal.returns

@@ -1,6 +1,5 @@
 -- `session_numbers::low_of` meets its contract: the test of the number is the test of the definition. Assumes nothing.
 use borrow.Author.Tests.{lt-ltb, le-ltb}
-use borrow.Author.Rules.{rules}
 use Rattle.session_numbers.proofs.low_of.Goals as goal
 
 pub returns-then-number-lt4294967296 : goal.returns-then-number-lt4294967296

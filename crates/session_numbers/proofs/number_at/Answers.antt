@@ -1,7 +1,6 @@
 -- `session_numbers::number_at` meets its contract: past the end the number is the default. Assumes nothing.
 use mathlib.Core.Path.{sym}
 use lib.ListN.{get_or-eq_default}
-use borrow.Author.Rules.{rules}
 use Rattle.session_numbers.proofs.number_at.Goals as goal
 
 pub returns : goal.returns

@@ -1,6 +1,5 @@
 -- `session_numbers::told_of` meets its contract: each field is that of its numbers. Assumes nothing.
 use Rattle.session_numbers.specs.Numbers.{told_of}
-use borrow.Author.Rules.{rules}
 use Rattle.session_numbers.proofs.told_of.Goals as goal
 
 pub returns : goal.returns

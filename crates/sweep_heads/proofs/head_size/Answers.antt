@@ -1,5 +1,4 @@
 -- `sweep_heads::head_size` meets its contract. Assumes nothing.
-use borrow.Author.Rules.{rules}
 use Rattle.sweep_heads.proofs.Sizes.{head_few}
 use Rattle.sweep_heads.proofs.head_size.Goals as goal
 

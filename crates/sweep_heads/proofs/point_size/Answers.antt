@@ -1,5 +1,4 @@
 -- `sweep_heads::point_size` meets its contract. Assumes nothing.
-use borrow.Author.Rules.{rules}
 use Rattle.sweep_heads.proofs.Sizes.{none-few, point-few}
 use Rattle.sweep_heads.proofs.point_size.Goals as goal
 

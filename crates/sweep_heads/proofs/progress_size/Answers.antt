@@ -1,5 +1,4 @@
 -- `sweep_heads::progress_size` meets its contract, by the kind of progress. Assumes nothing.
-use borrow.Author.Rules.{rules}
 use Rattle.sweep_heads.proofs.Sizes.{letter-few, count-few}
 use Rattle.sweep_heads.proofs.progress_size.Goals as goal
 

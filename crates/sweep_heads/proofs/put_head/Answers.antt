@@ -1,5 +1,4 @@
 -- `sweep_heads::put_head` meets its contract. Assumes nothing.
-use borrow.Author.Rules.{rules}
 use Rattle.sweep_heads.proofs.Heads.{head-put}
 use Rattle.sweep_heads.proofs.put_head.Goals as goal
 

@@ -1,5 +1,4 @@
 -- `sweep_heads::put_point` meets its contract, with an injection and without. Assumes nothing.
-use borrow.Author.Rules.{rules}
 use Rattle.pieces.specs.Pieces.{tabbed}
 use Rattle.pieces.proofs.Cursors.{joint}
 use Rattle.sweep_heads.proofs.put_point.Goals as goal

@@ -1,5 +1,4 @@
 -- `sweep_heads::put_progress` meets its contract, by the kind of progress. Assumes nothing.
-use borrow.Author.Rules.{rules}
 use Rattle.sweep_heads.proofs.put_progress.Goals as goal
 
 pub returns-in-None : goal.returns-in-None

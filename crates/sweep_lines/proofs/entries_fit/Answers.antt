@@ -1,11 +1,7 @@
 -- `sweep_lines::entries_fit` meets its contract: the fields of the rows from `i` on are to fit into what is left. Assumes nothing.
-use mathlib.Core.Path.{◌≡◌}
 use mathlib.Core.List.{flatten}
-use Prim.Native.Nat.{◌+◌, ◌-◌, ◌≤◌}
 use native.Mathlib.Omega.{arith}
-use lib.ListN.{length, drop}
-use lib.Dec.{leb}
-use borrow.Author.Rules.{rules}
+use lib.ListN.{length}
 use Rattle.model.specs.Columns.{ledger_of}
 use Rattle.pieces.proofs.Rooms.{fit-not, fit-start, fit-room, fit-more, fit-out, fit-end}
 use Rattle.sweep_lines.specs.Fields.{ledger_pieces}

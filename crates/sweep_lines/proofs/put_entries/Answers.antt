@@ -1,12 +1,6 @@
 -- `sweep_lines::put_entries` meets its contract: the rows from `row` on are still to be written. Assumes nothing.
-use mathlib.Core.Path.{◌≡◌, refl, ◌∙◌}
-use Prim.Native.Nat.{◌-◌, ◌≤◌}
+use mathlib.Core.Path.{refl, ◌∙◌}
 use native.Mathlib.Omega.{arith}
-use lib.ListN.{length, drop}
-use borrow.Author.Rules.{rules}
-use Rattle.model.specs.Columns.{ledger_of}
-use Rattle.pieces.specs.Pieces.{cursor, after_all}
-use Rattle.sweep_lines.specs.Fields.{ledger_pieces}
 use Rattle.sweep_lines.proofs.Entries.{rows-put, rows-put-end}
 use Rattle.sweep_lines.proofs.put_entries.Goals as goal
 

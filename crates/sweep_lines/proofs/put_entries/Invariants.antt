@@ -1,13 +1,10 @@
 -- `sweep_lines::put_entries` meets its contract: the rows from `row` on are still to be written. Assumes nothing.
-use mathlib.Core.Path.{◌≡◌, refl, ◌∙◌}
+use mathlib.Core.Path.{◌≡◌}
 use Prim.Native.Nat.{◌-◌, ◌≤◌}
-use native.Mathlib.Omega.{arith}
 use lib.ListN.{length, drop}
-use borrow.Author.Rules.{rules}
 use Rattle.model.specs.Columns.{ledger_of}
 use Rattle.pieces.specs.Pieces.{cursor, after_all}
 use Rattle.sweep_lines.specs.Fields.{ledger_pieces}
-use Rattle.sweep_lines.proofs.Entries.{rows-put, rows-put-end}
 use Rattle.sweep_lines.proofs.put_entries.Given as goal
 
 abbrev pub invariant-loop-row : goal.invariant-loop-row

@@ -1,5 +1,4 @@
 -- `sweep_lines::put_entry` meets its contract, for an entry that is torn and for one that is not. Assumes nothing.
-use borrow.Author.Rules.{rules}
 use Rattle.sweep_lines.proofs.Entries.{entry-torn, entry_whole}
 use Rattle.sweep_lines.proofs.put_entry.Goals as goal
 

@@ -1,5 +1,4 @@
 -- `sweep_lines::sweep_line` meets its contract. Assumes nothing.
-use borrow.Author.Rules.{rules}
 use Rattle.history.proofs.Kept.{unrefused}
 use Rattle.sweep_lines.proofs.Ways.{sweep-not, sweep-short, sweep-done}
 use Rattle.sweep_lines.proofs.sweep_line.Goals as goal

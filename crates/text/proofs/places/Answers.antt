@@ -1,6 +1,6 @@
 -- `text::places` meets its contract. The loop has counted the last `count` digits, and the others are those of `rest`. Assumes nothing.
 use borrow.Author.Rules.{rules}
-use Rattle.text.proofs.Decimals.{decimals, Counting}
+use Rattle.text.proofs.Decimals.{decimals}
 use Rattle.text.proofs.places.Goals as goal
 
 pub loop-rest-init : goal.loop-rest-init

@@ -1,6 +1,5 @@
 -- `text::places` meets its contract. The loop has counted the last `count` digits, and the others are those of `rest`. Assumes nothing.
-use borrow.Author.Rules.{rules}
-use Rattle.text.proofs.Decimals.{decimals, Counting}
+use Rattle.text.proofs.Decimals.{Counting}
 use Rattle.text.proofs.places.Given as goal
 
 abbrev pub invariant-loop-rest : goal.invariant-loop-rest

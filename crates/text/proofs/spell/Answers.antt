@@ -1,9 +1,6 @@
 -- `text::spell` meets its contract. The loop has written the digits from `i` on, and those before are the digits of `rest`. Assumes nothing.
 use borrow.Author.Rules.{rules}
-use mathlib.Core.Path.{◌≡◌}
-use Prim.Native.Nat.{◌≤◌}
-use lib.ListN.{length}
-use Rattle.text.proofs.Decimals.{decimals, Spelling}
+use Rattle.text.proofs.Decimals.{decimals}
 use Rattle.text.proofs.spell.Goals as goal
 
 pub loop-i-init : goal.loop-i-init

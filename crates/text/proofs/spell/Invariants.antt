@@ -1,9 +1,7 @@
 -- `text::spell` meets its contract. The loop has written the digits from `i` on, and those before are the digits of `rest`. Assumes nothing.
-use borrow.Author.Rules.{rules}
 use mathlib.Core.Path.{◌≡◌}
-use Prim.Native.Nat.{◌≤◌}
 use lib.ListN.{length}
-use Rattle.text.proofs.Decimals.{decimals, Spelling}
+use Rattle.text.proofs.Decimals.{Spelling}
 use Rattle.text.proofs.spell.Given as goal
 
 abbrev pub invariant-loop-i : goal.invariant-loop-i
