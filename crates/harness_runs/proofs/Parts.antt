@@ -1,10 +1,9 @@
 -- A run of a sweep from its parts: refused by its number, or the rows and the ledger. Assumes nothing.
 use mathlib.Core.Path.{◌≡◌, refl, sym, ap, ◌∙◌}
-use mathlib.Core.Bool.{Bool, true, false}
-use mathlib.Core.List.{List, map}
+use mathlib.Core.Bool.{true, false}
+use mathlib.Core.List.{List}
 use Prim.Native.Nat.{ℕ}
 use lib.ListN.{length, take, replicate}
-use lib.Dec.{leb}
 use borrow.Author.Tests.{ne_eqb}
 use Rattle.device.specs.Media.{new_media}
 use Rattle.model.specs.Columns.{all_up_to}
@@ -21,9 +20,9 @@ use Rattle.script.specs.Columns.{Columns}
 use Rattle.script.specs.Held.{calls_in}
 use Rattle.rows.proofs.Numbers.{kinds-known}
 use Rattle.steps.specs.Writer.{Wrote, wrote}
-use Rattle.steps.specs.Step.{session_of, Task, call}
+use Rattle.steps.specs.Step.{session_of, Task}
 use Rattle.runner.specs.declared.Ended.{Ended}
-use Rattle.runner.specs.Run.{tasks_in, Outcome, ran_rows, Leaves, left_of, leaves}
+use Rattle.runner.specs.Run.{tasks_in, ran_rows, Leaves, left_of, leaves}
 use Rattle.runner.proofs.Lines.{tasks-calls, wrote_by, writes}
 use Rattle.sweeps.specs.Sweep.{told_by}
 use Rattle.harness_runs.specs.declared.Ran.{Ran}

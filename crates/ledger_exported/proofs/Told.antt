@@ -9,9 +9,9 @@ use Rattle.session.specs.declared.Counters.{Counters}
 use Rattle.session.specs.Log.{Log, Marks}
 use Rattle.ledger.specs.declared.Derived.{Derived}
 use Rattle.ledger.specs.declared.Derived.TheVariants.{Entries, NotDerived}
-use Rattle.ledger.specs.Ledger.{Entered, Ledgered, ledgered, ledger_call}
+use Rattle.ledger.specs.Ledger.{Entered, ledgered, ledger_call}
 use Rattle.session_numbers.specs.Numbers.{told_of, counters_of}
-use Rattle.ledger_exported.specs.Left.{LedgerLeft, ledger_left, ledgered_over}
+use Rattle.ledger_exported.specs.Left.{ledger_left, ledgered_over}
 
 module _ (told state : List ℕ) (t : Told) (et : t ≡ told_of told) (c : Counters) (ec : c ≡ counters_of state) (media copy : List ℕ) (l : Log) (m : Marks)
     (before after : Entered) (r : Derived) (q : ledgered r after ≡ ledger_call t c media copy l m before) (old : ℕ) where

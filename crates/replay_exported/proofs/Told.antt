@@ -8,9 +8,9 @@ use Rattle.session.specs.declared.Told.{Told}
 use Rattle.ledger.specs.declared.Derived.{Derived}
 use Rattle.ledger.specs.declared.Derived.TheVariants.{Entries, NotDerived}
 use Rattle.script.specs.Columns.{Columns}
-use Rattle.replay.specs.Replay.{Lent, Replayed, replayed, replay_call}
+use Rattle.replay.specs.Replay.{Lent, replayed, replay_call}
 use Rattle.session_numbers.specs.Numbers.{told_of}
-use Rattle.replay_exported.specs.Left.{ReplayLeft, replay_left, replayed_over}
+use Rattle.replay_exported.specs.Left.{replay_left, replayed_over}
 
 module _ (told : List ℕ) (t : Told) (et : t ≡ told_of told) (rows : ℕ) (k : Columns) (before after : Lent) (r : Derived)
     (q : replayed r after ≡ replay_call t rows k before) (old : ℕ) where

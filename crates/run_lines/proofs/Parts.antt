@@ -10,7 +10,7 @@
 -- Assumes nothing.
 use mathlib.Core.Path.{◌≡◌, refl, sym, ap, ap₂, ◌∙◌}
 use mathlib.Core.Bool.{Bool, true, false}
-use mathlib.Core.List.{List, [], ◌∷◌, ◌++◌}
+use mathlib.Core.List.{List, [], ◌∷◌}
 use Prim.Native.Nat.{ℕ, min}
 use lib.ListN.{length, take, drop, replicate}
 use lib.Seq.{take_at}
@@ -47,7 +47,7 @@ use Rattle.harness_runs.specs.Running.{zeros, run_left, run_call, ran_on}
 use Rattle.text_of_runs.specs.Claim.{rows_to}
 use Rattle.run_lines.specs.declared.RunLine.{RunLine}
 use Rattle.run_lines.specs.declared.RunLine.TheVariants.{NoLine}
-use Rattle.run_lines.specs.RunLine.{judged_of, history_test, judge_put, line_put, RunPut, run_put, line_reply, line_as, RunEnd, run_end, end_of, line_ended, armed_put, line_placed, run_line_call}
+use Rattle.run_lines.specs.RunLine.{judged_of, history_test, judge_put, line_put, run_put, line_reply, line_as, RunEnd, run_end, end_of, line_ended, armed_put, line_placed, run_line_call}
 
 -- a line as it was put
 abbrev pub lined : Line → (out : List ℕ) → Put

@@ -1,12 +1,11 @@
 -- The line at a place is document 01's, unless it does not fit.
 --     line_at         the line of the run at a place
 -- Assumes nothing.
-use mathlib.Core.Path.{◌≡◌, refl, sym, ap, ap₂, ◌∙◌}
+use mathlib.Core.Path.{◌≡◌, refl, sym, ap, ◌∙◌}
 use mathlib.Core.Bool.{Bool, true, false, cond}
 use mathlib.Core.List.{List, []}
 use Prim.Native.Nat.{ℕ}
-use lib.ListN.{length, take, replicate, length-replicate}
-use Rattle.model.specs.declared.ListAnswer.TheVariants.{ListIs}
+use lib.ListN.{length, take, length-replicate}
 use Rattle.model.specs.Answers.{Written}
 use Rattle.oracle.specs.declared.Banks.TheVariants.{Absent}
 use Rattle.oracle.specs.Verdict.{number_of, verified}
@@ -16,13 +15,13 @@ use Rattle.script.specs.declared.Head.{Head}
 use Rattle.script.specs.Columns.{Columns}
 use Rattle.lines.specs.Lines.{judged_line}
 use Rattle.history.specs.History.{suggested_written}
-use Rattle.lines.specs.Answers.{Put, put}
+use Rattle.lines.specs.Answers.{put}
 use Rattle.armed_runs.specs.declared.Placed.{Placed}
 use Rattle.harness_runs.specs.declared.Ran.{Ran}
 use Rattle.harness_runs.specs.Running.{zeros, RunLeft, ran_on}
 use Rattle.harness.specs.Opening.{OpenLeft}
-use Rattle.text_of_runs.specs.Claim.{rows_to, RunPrinted, PlacePrinted}
-use Rattle.run_lines.specs.RunLine.{judge_put, line_put, RunPut, line_as, line_ended, armed_put, line_placed, run_line_call}
+use Rattle.text_of_runs.specs.Claim.{RunPrinted, PlacePrinted}
+use Rattle.run_lines.specs.RunLine.{judge_put, line_put, line_as, line_ended, armed_put, line_placed, run_line_call}
 use Rattle.run_lines.proofs.Parts.{judged-by}
 
 pub zeros-long : (n : ℕ) → length (zeros n) ≡ n

@@ -1,7 +1,6 @@
 -- The layer `script` with its answers as ten cells of a reply: number and line, the four units of line 1, whether a bit set without
 -- an erase is rejected, whether the writer carries on, how many calls and how many bytes. Definitions only; assumes nothing.
 use Rattle.std.specs.Prelude.{Bool, cond, List, [], ◌∷◌, ℕ}
-use Rattle.storage.specs.declared.Geometry.{Geometry}
 use Rattle.script.specs.declared.Head.{Head}
 use Rattle.script.specs.declared.ReadScript.{ReadScript}
 use Rattle.script.specs.declared.ReadScript.TheVariants.{Read, Refused}

@@ -14,9 +14,8 @@ use Rattle.storage.specs.declared.NewGeometry.{NewGeometry}
 use Rattle.storage.specs.declared.NewGeometry.TheVariants.{Described, NotDescribed}
 use Rattle.storage.specs.declared.EraseBlocks.{EraseBlocks}
 use Rattle.storage.specs.declared.EraseBlocks.TheVariants.{Blocks, NoBlocks}
-use Rattle.storage.specs.Geometry.{any_zero, no_power_of_two, unnested, geometry_test}
-use Rattle.storage.specs.Span.{span_test}
-use Rattle.storage.specs.Answers.{number_of, number_of_validated, error_of, answered, described, blocks_of}
+use Rattle.storage.specs.Geometry.{geometry_test}
+use Rattle.storage.specs.Answers.{number_of, error_of, described, blocks_of}
 use Rattle.storage.proofs.Numbers.{numbered, geometry-most}
 use Rattle.storage_exported.specs.Storage.{units_in, kept_of, blocks_over}
 

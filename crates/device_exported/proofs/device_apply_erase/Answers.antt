@@ -1,5 +1,4 @@
 -- `device_exported::device_apply_erase` meets its contract: the call told what it left and whether a cell changed. Assumes nothing.
-use borrow.Author.Rules.{rules}
 use Rattle.device_exported.proofs.DeviceNumbers.{applied-told}
 use Rattle.device_exported.proofs.device_apply_erase.Goals as goal
 

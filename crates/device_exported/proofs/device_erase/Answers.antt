@@ -1,5 +1,4 @@
 -- `device_exported::device_erase` meets its contract: the number of the reply is the number of the tests. Assumes nothing.
-use borrow.Author.Rules.{rules}
 use Rattle.device_exported.proofs.DeviceNumbers.{erase-told}
 use Rattle.device_exported.proofs.device_erase.Goals as goal
 

@@ -1,6 +1,5 @@
 -- `device_exported::device_postimage_of` meets its contract: the answer told which case it is, and with it the number and the count. Assumes nothing.
 use Rattle.device.specs.Media.{postimage}
-use borrow.Author.Rules.{rules}
 use Rattle.device_exported.proofs.DeviceNumbers.{cells_told, short-told}
 use Rattle.device_exported.proofs.device_postimage_of.Goals as goal
 

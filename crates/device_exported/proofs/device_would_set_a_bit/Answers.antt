@@ -1,5 +1,4 @@
 -- `device_exported::device_would_set_a_bit` meets its contract: the number is that of the yes or no that the call told. Assumes nothing.
-use borrow.Author.Rules.{rules}
 use Rattle.device_exported.proofs.DeviceNumbers.{flag-told}
 use Rattle.device_exported.proofs.device_would_set_a_bit.Goals as goal
 

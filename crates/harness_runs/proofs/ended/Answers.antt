@@ -1,7 +1,6 @@
 -- `harness_runs::ended` meets its contract. Assumes nothing.
 use mathlib.Core.Path.{sym, ap}
 use Rattle.harness_runs.specs.Running.{ended_by}
-use borrow.Author.Rules.{rules}
 use Rattle.harness_runs.proofs.ended.Goals as goal
 
 pub returns-in-Entries : goal.returns-in-Entries

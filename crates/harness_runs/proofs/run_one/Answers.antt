@@ -1,5 +1,5 @@
 -- `harness_runs::run_one` meets its contract: refused by its number, or the rows and the ledger. Assumes nothing.
-use mathlib.Core.Path.{sym, ◌∙◌}
+use mathlib.Core.Path.{sym}
 use Prim.Native.Nat.{ℕ}
 use lib.ListN.{length-replicate}
 use Rattle.ledger.specs.Ledger.{entered_of}

@@ -5,7 +5,6 @@ use Rattle.session.specs.declared.Counters.{Counters}
 use Rattle.held.specs.declared.Held.{Held}
 use Rattle.held.specs.Held.{recorded_of, held_call}
 use Rattle.held_exported.proofs.Told.{told-kept, told-relabelled, told-refused}
-use borrow.Author.Rules.{rules}
 use Rattle.held_exported.proofs.held_of_runs.Goals as goal
 use Rattle.held_exported.proofs.held_of_runs.Goals.{Start}
 

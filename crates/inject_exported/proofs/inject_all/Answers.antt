@@ -1,5 +1,4 @@
 -- `inject_exported::inject_all` meets its contract: the answer told which case it is, and with it the number of the tests and the columns. Assumes nothing.
-use borrow.Author.Rules.{rules}
 use Rattle.inject_columns.specs.Answers.{PointColumns, columns_of}
 use Rattle.inject_exported.proofs.InjectNumbers.{list-taken, list-refused}
 use Rattle.inject_exported.proofs.inject_all.Goals as goal

@@ -1,6 +1,5 @@
 -- `inject_exported::inject_at` meets its contract: the answer told which case it is, and with it the number of the tests. Assumes nothing.
 use mathlib.Core.Path.{◌∙◌}
-use borrow.Author.Rules.{rules}
 use Rattle.inject_exported.proofs.InjectNumbers.{find-taken, find-refused}
 use Rattle.inject_exported.proofs.inject_at.Goals as goal
 

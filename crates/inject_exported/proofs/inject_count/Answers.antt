@@ -1,5 +1,4 @@
 -- `inject_exported::inject_count` meets its contract: the answer told which case it is, and with it the number of the tests. Assumes nothing.
-use borrow.Author.Rules.{rules}
 use Rattle.inject_exported.proofs.InjectNumbers.{count-taken, count-refused}
 use Rattle.inject_exported.proofs.inject_count.Goals as goal
 

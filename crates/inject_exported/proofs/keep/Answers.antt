@@ -1,5 +1,4 @@
 -- `inject_exported::keep` meets its contract: each of the four calls stores one of the point's numbers. Assumes nothing.
-use borrow.Author.Rules.{rules}
 use Rattle.inject_exported.specs.Inject.{point_in}
 use Rattle.inject_exported.proofs.keep.Goals as goal
 

@@ -2,7 +2,6 @@
 use Rattle.session.specs.Log.{log_of, marks_of}
 use Rattle.ledger.specs.Ledger.{entered_of}
 use Rattle.ledger_exported.proofs.Told.{ledger-told, ledger-refused}
-use borrow.Author.Rules.{rules}
 use Rattle.ledger_exported.proofs.ledger_of_run.Goals as goal
 
 pub returns-in-Entries : goal.returns-in-Entries

@@ -5,7 +5,6 @@ use native.Mathlib.Omega.{arith}
 use lib.ListN.{length, replicate, length-replicate}
 use lib.Seq.{length-take-le}
 use Rattle.run_lines.proofs.Parts.{judged-refused, judged-listed}
-use borrow.Author.Rules.{rules}
 use Rattle.run_lines.proofs.judged_line.Goals as goal
 
 blank-long : length (replicate {A = ℕ} 512 0) ≡ 512

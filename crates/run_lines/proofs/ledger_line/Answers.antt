@@ -3,7 +3,6 @@ use mathlib.Core.Path.{sym}
 use native.Mathlib.Omega.{arith}
 use lib.Seq.{length-take-le}
 use Rattle.run_lines.proofs.Parts.{rows-line}
-use borrow.Author.Rules.{rules}
 use Rattle.run_lines.proofs.ledger_line.Goals as goal
 
 pub slice_bounds-line_of-end : goal.slice_bounds-line_of-end

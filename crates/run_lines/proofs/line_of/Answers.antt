@@ -1,6 +1,5 @@
 -- `run_lines::line_of` meets its contract: one way or the other. Assumes nothing.
 use Rattle.run_lines.proofs.Parts.{judged-way, swept-way}
-use borrow.Author.Rules.{rules}
 use Rattle.run_lines.proofs.line_of.Goals as goal
 
 pub returns-then-judged : goal.returns-then-judged

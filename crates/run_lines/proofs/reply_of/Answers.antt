@@ -1,5 +1,4 @@
 -- `run_lines::reply_of` meets its contract: one way for each answer. Assumes nothing.
-use borrow.Author.Rules.{rules}
 use Rattle.run_lines.proofs.reply_of.Goals as goal
 
 pub returns-in-Past : goal.returns-in-Past

@@ -1,7 +1,6 @@
 -- `run_lines::run_line` meets its contract: a place without a run, or the line of its run. Assumes nothing.
 use Rattle.script.specs.Columns.{columns}
 use Rattle.run_lines.proofs.Parts.{place-refused, place-run}
-use borrow.Author.Rules.{rules}
 use Rattle.run_lines.proofs.run_line.Goals as goal
 
 pub returns-in-NoRun : goal.returns-in-NoRun

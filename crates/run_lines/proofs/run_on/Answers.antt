@@ -5,7 +5,6 @@ use lib.Seq.{length-take-le}
 use Rattle.ledger.specs.Ledger.{entered_of}
 use Rattle.script.specs.Columns.{columns}
 use Rattle.run_lines.proofs.Parts.{on-part}
-use borrow.Author.Rules.{rules}
 use Rattle.run_lines.proofs.run_on.Goals as goal
 
 pub slice_bounds-run_one-end : goal.slice_bounds-run_one-end

@@ -1,6 +1,5 @@
 -- `run_lines::verdict_line` meets its contract: the verdict's number, and the history behind it. Assumes nothing.
 use Rattle.run_lines.proofs.Parts.{verdict-line}
-use borrow.Author.Rules.{rules}
 use Rattle.run_lines.proofs.verdict_line.Goals as goal
 
 pub returns : goal.returns

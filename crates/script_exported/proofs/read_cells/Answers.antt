@@ -1,5 +1,4 @@
 -- `script_exported::read_cells` meets its contract: the two flags are cells. Assumes nothing.
-use borrow.Author.Rules.{rules}
 use Rattle.script_exported.proofs.read_cells.Goals as goal
 
 pub returns : goal.returns

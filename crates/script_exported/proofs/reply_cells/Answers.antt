@@ -1,5 +1,4 @@
 -- `script_exported::reply_cells` meets its contract, case by case. Assumes nothing.
-use borrow.Author.Rules.{rules}
 use Rattle.script_exported.proofs.reply_cells.Goals as goal
 
 pub returns-in-Read : goal.returns-in-Read

@@ -1,5 +1,4 @@
 -- `script_exported::script_count_calls` meets its contract: the cells are those of the call's answer. Assumes nothing.
-use borrow.Author.Rules.{rules}
 use Rattle.script_exported.proofs.script_count_calls.Goals as goal
 
 pub returns : goal.returns

@@ -1,6 +1,5 @@
 -- `session_calls::barrier` meets its contract: refused, or replied to and recorded. Assumes nothing.
 use Rattle.session_calls.proofs.Calls.{barrier-refused, barrier-taken}
-use borrow.Author.Rules.{rules}
 use Rattle.session_calls.proofs.barrier.Goals as goal
 
 pub returns-then-refused-ne0 : goal.returns-then-refused-ne0

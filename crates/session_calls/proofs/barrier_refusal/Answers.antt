@@ -1,7 +1,6 @@
 -- `session_calls::barrier_refusal` meets its contract: the tests in order, two at a time. Assumes nothing.
 use Rattle.storage.proofs.Numbers.{geometry-refusal}
 use Rattle.session_calls.proofs.Refusals.{barrier-tests}
-use borrow.Author.Rules.{rules}
 use Rattle.session_calls.proofs.barrier_refusal.Goals as goal
 
 pub returns : goal.returns

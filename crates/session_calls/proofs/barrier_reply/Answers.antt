@@ -1,6 +1,5 @@
 -- `session_calls::barrier_reply` meets its contract: what is armed, how it ends, the reply. Assumes nothing.
 use Rattle.session.specs.Barrier.{barrier_reply}
-use borrow.Author.Rules.{rules}
 use Rattle.session_calls.proofs.barrier_reply.Goals as goal
 
 pub returns : goal.returns

@@ -1,6 +1,5 @@
 -- `session_calls::read` meets its contract: 7, the stop, and then the device's own read. Assumes nothing.
 use Rattle.session_calls.proofs.Fetches.{read-size, read-stopped, read-accepted, read-refused}
-use borrow.Author.Rules.{rules}
 use Rattle.session_calls.proofs.read.Goals as goal
 
 pub returns-then-media-geometry : goal.returns-then-media-geometry

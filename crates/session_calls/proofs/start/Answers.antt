@@ -1,6 +1,5 @@
 -- `session_calls::start` meets its contract: refused, or the media filled. Assumes nothing.
 use Rattle.session_calls.proofs.Calls.{start-refused, start-taken}
-use borrow.Author.Rules.{rules}
 use Rattle.session_calls.proofs.start.Goals as goal
 
 pub returns-then-refused-ne0 : goal.returns-then-refused-ne0

@@ -2,7 +2,6 @@
 use mathlib.Core.Path.{refl}
 use Rattle.storage.proofs.Numbers.{geometry-refusal}
 use Rattle.session_calls.proofs.Refusals.{start-units, start-sizes, start-uneven, start-short, start-passed}
-use borrow.Author.Rules.{rules}
 use Rattle.session_calls.proofs.start_refusal.Goals as goal
 
 pub returns-then-units-ne0 : goal.returns-then-units-ne0

@@ -1,7 +1,6 @@
 -- `session_erase::erase` meets its contract: refused, or landed and recorded. Assumes nothing.
 use mathlib.Core.Path.{sym, ◌∙◌}
 use Rattle.session_erase.proofs.Calls.{plan-le, erase-legal, erase-refused, erase-taken}
-use borrow.Author.Rules.{rules}
 use Rattle.session_erase.proofs.erase.Goals as goal
 
 pub returns-then-refused-ne0 : goal.returns-then-refused-ne0

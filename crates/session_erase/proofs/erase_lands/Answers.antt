@@ -1,5 +1,4 @@
 -- `session_erase::erase_lands` meets its contract, case by case. Assumes nothing.
-use borrow.Author.Rules.{rules}
 use Rattle.session_erase.proofs.erase_lands.Goals as goal
 
 pub returns-in-At : goal.returns-in-At

@@ -2,7 +2,6 @@
 use Rattle.session_erase.specs.Erase.{erase_plan}
 use native.Mathlib.Omega.{arith}
 use Rattle.session_erase.proofs.Calls.{lands-le}
-use borrow.Author.Rules.{rules}
 use Rattle.session_erase.proofs.erase_plan.Goals as goal
 
 pub overflow_add-offset : goal.overflow_add-offset

@@ -1,7 +1,6 @@
 -- `session_erase::erase_refusal` meets its contract: the tests in order, two at a time. Assumes nothing.
 use Rattle.storage.proofs.Numbers.{span-refusal}
 use Rattle.session_erase.proofs.Calls.{erase-tests}
-use borrow.Author.Rules.{rules}
 use Rattle.session_erase.proofs.erase_refusal.Goals as goal
 
 pub returns : goal.returns

@@ -1,6 +1,5 @@
 -- `session_erase::land_erase` meets its contract: one erase on the media, one on the copy. Assumes nothing.
 use Rattle.session_erase.proofs.Calls.{landing}
-use borrow.Author.Rules.{rules}
 use Rattle.session_erase.proofs.land_erase.Goals as goal
 
 pub returns : goal.returns

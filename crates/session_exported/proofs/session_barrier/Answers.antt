@@ -1,6 +1,5 @@
 -- `session_exported::session_barrier` meets its contract: the call told what it leaves, and its counters were put back. Assumes nothing.
 use Rattle.session_exported.proofs.SessionNumbers.{barrier-told}
-use borrow.Author.Rules.{rules}
 use Rattle.session_exported.proofs.session_barrier.Goals as goal
 
 pub returns : goal.returns

@@ -1,6 +1,5 @@
 -- `session_exported::session_program` meets its contract: the call told what it leaves, and its counters were put back. Assumes nothing.
 use Rattle.session_exported.proofs.SessionNumbers.{program-told}
-use borrow.Author.Rules.{rules}
 use Rattle.session_exported.proofs.session_program.Goals as goal
 
 pub returns : goal.returns

@@ -1,6 +1,5 @@
 -- `session_exported::session_read` meets its contract: the call told what it leaves. Assumes nothing.
 use Rattle.session_exported.proofs.SessionNumbers.{read_told}
-use borrow.Author.Rules.{rules}
 use Rattle.session_exported.proofs.session_read.Goals as goal
 
 pub returns : goal.returns

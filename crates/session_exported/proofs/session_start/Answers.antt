@@ -1,6 +1,5 @@
 -- `session_exported::session_start` meets its contract: the answer told which case it is, and the counters of a fresh one were put in place. Assumes nothing.
 use Rattle.session_exported.proofs.SessionNumbers.{start-fresh, start-refused}
-use borrow.Author.Rules.{rules}
 use Rattle.session_exported.proofs.session_start.Goals as goal
 
 pub returns-in-Fresh : goal.returns-in-Fresh

@@ -2,7 +2,6 @@
 use mathlib.Core.Path.{sym, ◌∙◌}
 use Rattle.session.specs.Log.{Marks, marks_of}
 use Rattle.session_marks.proofs.Rows.{marks-fit, noted-refused, noted-taken, marked-one}
-use borrow.Author.Rules.{rules}
 use Rattle.session_marks.proofs.begin_record.Goals as goal
 use Rattle.session_marks.proofs.begin_record.Goals.{Start}
 

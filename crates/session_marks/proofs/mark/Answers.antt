@@ -1,5 +1,4 @@
 -- `session_marks::mark` meets its contract: one store in each column. Assumes nothing.
-use borrow.Author.Rules.{rules}
 use Rattle.session_marks.proofs.mark.Goals as goal
 
 pub returns : goal.returns

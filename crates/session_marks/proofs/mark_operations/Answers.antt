@@ -3,7 +3,6 @@ use mathlib.Core.Path.{sym, ◌∙◌}
 use native.Mathlib.Omega.{arith}
 use Rattle.session.specs.Log.{Marks, marks_of}
 use Rattle.session_marks.proofs.Rows.{marks-fit, noted-refused, noted-taken, marked-two}
-use borrow.Author.Rules.{rules}
 use Rattle.session_marks.proofs.mark_operations.Goals as goal
 use Rattle.session_marks.proofs.mark_operations.Goals.{Start}
 

@@ -1,7 +1,6 @@
 -- `session_marks::mark_refusal` meets its contract: the lengths before 28. Assumes nothing.
 use native.Mathlib.Omega.{arith}
 use Rattle.session_marks.proofs.Rows.{marks-lengths, marks-full, marks-room}
-use borrow.Author.Rules.{rules}
 use Rattle.session_marks.proofs.mark_refusal.Goals as goal
 
 pub returns-then-lengths-ne0 : goal.returns-then-lengths-ne0

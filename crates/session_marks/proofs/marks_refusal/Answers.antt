@@ -2,7 +2,6 @@
 use borrow.Author.Tests.{lt-ltb, le-ltb}
 use Rattle.basics.specs.Tests.{refuse_if, first_of}
 use Rattle.session.specs.Tests.{marks_length_test}
-use borrow.Author.Rules.{rules}
 use Rattle.session_marks.proofs.marks_refusal.Goals as goal
 
 pub returns-then-marks_uneven : goal.returns-then-marks_uneven

@@ -3,7 +3,6 @@ use Rattle.session.specs.declared.Counters.{Counters}
 use Rattle.session.specs.Log.{Marks, marks_of}
 use Rattle.session.specs.Marks.{begun}
 use Rattle.session_marks_exported.proofs.Told.{marks-told}
-use borrow.Author.Rules.{rules}
 use Rattle.session_marks_exported.proofs.session_begin.Goals as goal
 use Rattle.session_marks_exported.proofs.session_begin.Goals.{Start}
 

@@ -1,7 +1,6 @@
 -- `session_program::bit_refusal` meets its contract, rule by rule. Assumes nothing.
 use Rattle.basics.proofs.Tests.{refuse-if, refuse-not}
 use Rattle.session_program.proofs.Refusals.{bit-absorbed, bit-rejected}
-use borrow.Author.Rules.{rules}
 use Rattle.session_program.proofs.bit_refusal.Goals as goal
 
 pub returns-in-Absorbed : goal.returns-in-Absorbed

@@ -2,7 +2,6 @@
 use mathlib.Core.Path.{sym}
 use lib.Seq.{length-take-le}
 use Rattle.session_program.proofs.Landings.{landing}
-use borrow.Author.Rules.{rules}
 use Rattle.session_program.proofs.land_program.Goals as goal
 
 pub slice_bounds-apply_program-end : goal.slice_bounds-apply_program-end

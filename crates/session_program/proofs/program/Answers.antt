@@ -3,7 +3,6 @@ use mathlib.Core.Path.{sym, ◌∙◌}
 use Rattle.session_program.proofs.Refusals.{ready}
 use Rattle.session_program.proofs.Landings.{plan-le}
 use Rattle.session_program.proofs.Calls.{program-refused, program-taken}
-use borrow.Author.Rules.{rules}
 use Rattle.session_program.proofs.program.Goals as goal
 
 pub returns-then-refused-ne0 : goal.returns-then-refused-ne0

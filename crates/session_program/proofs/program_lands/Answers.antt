@@ -1,5 +1,4 @@
 -- `session_program::program_lands` meets its contract, case by case. Assumes nothing.
-use borrow.Author.Rules.{rules}
 use Rattle.session_program.proofs.program_lands.Goals as goal
 
 pub returns-in-At : goal.returns-in-At

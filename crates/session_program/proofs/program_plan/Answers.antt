@@ -2,7 +2,6 @@
 use Rattle.session_program.specs.Program.{program_plan}
 use native.Mathlib.Omega.{arith}
 use Rattle.session_program.proofs.Landings.{lands-le}
-use borrow.Author.Rules.{rules}
 use Rattle.session_program.proofs.program_plan.Goals as goal
 
 pub overflow_add-offset : goal.overflow_add-offset

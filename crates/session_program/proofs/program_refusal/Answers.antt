@@ -1,6 +1,5 @@
 -- `session_program::program_refusal` meets its contract: the tests in order, the bytes looked at only where none before refuses. Assumes nothing.
 use Rattle.session_program.proofs.Refusals.{program-early, program-late}
-use borrow.Author.Rules.{rules}
 use Rattle.session_program.proofs.program_refusal.Goals as goal
 
 pub returns-then-early-ne0 : goal.returns-then-early-ne0

@@ -1,7 +1,6 @@
 -- `session_program::span_refusal` meets its contract: each way out is one row of the definition's tests. Assumes nothing.
 use Rattle.storage.proofs.Numbers.{geometry-refusal, span-refusal}
 use Rattle.session_program.proofs.Refusals.{span-units, span-buffer, span_rest}
-use borrow.Author.Rules.{rules}
 use Rattle.session_program.proofs.span_refusal.Goals as goal
 
 pub returns-then-units-ne0 : goal.returns-then-units-ne0

@@ -1,5 +1,4 @@
 -- `storage_exported::keep` meets its contract: each of the four calls stores one unit. Assumes nothing.
-use borrow.Author.Rules.{rules}
 use Rattle.storage_exported.specs.Storage.{units_in}
 use Rattle.storage_exported.proofs.keep.Goals as goal
 

@@ -1,5 +1,4 @@
 -- `storage_exported::storage_erase_blocks` meets its contract: the answer told which case it is, and with it the test's number. Assumes nothing.
-use borrow.Author.Rules.{rules}
 use Rattle.storage_exported.proofs.StorageNumbers.{blocks-taken, blocks-refused}
 use Rattle.storage_exported.proofs.storage_erase_blocks.Goals as goal
 

@@ -1,6 +1,5 @@
 -- `storage_exported::storage_new` meets its contract: the answer told which case it is, and with it the test's number. Assumes nothing.
 use mathlib.Core.Path.{◌∙◌}
-use borrow.Author.Rules.{rules}
 use Rattle.storage_exported.proofs.StorageNumbers.{new-taken, new-refused}
 use Rattle.storage_exported.proofs.storage_new.Goals as goal
 

@@ -1,5 +1,4 @@
 -- `storage_exported::storage_validate_program` meets its contract: the number of the answer is the number of the test. Assumes nothing.
-use borrow.Author.Rules.{rules}
 use Rattle.storage.proofs.Numbers.{span-refusal}
 use Rattle.storage_exported.proofs.storage_validate_program.Goals as goal
 
