@@ -8,7 +8,7 @@
 ghost use Rattle.std.specs.Prelude.{◌<◌};
 
 use device::{OneWayBits, Postimage};
-use libc::STDOUT_FILENO;
+use std::io;
 use storage::Geometry;
 
 const OFFSETS: [u32; 7] = [0, 2, 4, 8, 15, 16, 4294967292];
@@ -18,39 +18,32 @@ const BYTES: [u8; 16] = [
 ];
 
 // A number and a blank.
-fn print(n: usize) {
-    io::print_decimal(STDOUT_FILENO, n as u64);
-    io::write_all(STDOUT_FILENO, b" ");
+fn print(rt: &impl Print, n: usize) -> io::Result<()> {
+    print!(rt; "{n} ")
 }
 
 // A u32 and a blank.
-fn print_u32(n: u32) {
-    io::print_decimal(STDOUT_FILENO, n as u64);
-    io::write_all(STDOUT_FILENO, b" ");
+fn print_u32(rt: &impl Print, n: u32) -> io::Result<()> {
+    print!(rt; "{n} ")
 }
 
 // A yes as 1, a no as 0, and a blank.
-fn print_flag(answer: bool) {
-    if answer {
-        print(1);
-    } else {
-        print(0);
-    }
+fn print_flag(rt: &impl Print, answer: bool) -> io::Result<()> {
+    if answer { print(rt, 1) } else { print(rt, 0) }
 }
 
 // A blank and a byte.
-fn print_byte(byte: u8) {
-    io::write_all(STDOUT_FILENO, b" ");
-    io::print_decimal(STDOUT_FILENO, byte as u64);
+fn print_byte(rt: &impl Print, byte: u8) -> io::Result<()> {
+    print!(rt; " {byte}")
 }
 
 // The end of a line: a colon, and bytes.
-fn print_bytes(bytes: &[u8]) {
-    io::write_all(STDOUT_FILENO, b":");
+fn print_bytes(rt: &impl Print, bytes: &[u8]) -> io::Result<()> {
+    rt.write_all(b":")?;
     for i in 0..bytes.len() {
-        print_byte(bytes[i]);
+        print_byte(rt, bytes[i])?;
     }
-    io::write_all(STDOUT_FILENO, b"\n");
+    rt.write_all(b"\n")
 }
 
 // Bytes of the table, from a place on and around.
@@ -70,68 +63,101 @@ fn rule_of(rule: u32) -> OneWayBits {
 }
 
 // What stands before an answer: the call's kind, the rule, the capacity, the cells lent, and the span.
-fn print_call(kind: usize, rule: u32, geometry: Geometry, cells: usize, offset: u32, len: usize) {
-    print(kind);
-    print_u32(rule);
-    print_u32(geometry.capacity);
-    print(cells);
-    print_u32(offset);
-    print(len);
+fn print_call(
+    rt: &impl Print,
+    kind: usize,
+    rule: u32,
+    geometry: Geometry,
+    cells: usize,
+    offset: u32,
+    len: usize,
+) -> io::Result<()> {
+    print(rt, kind)?;
+    print_u32(rt, rule)?;
+    print_u32(rt, geometry.capacity)?;
+    print(rt, cells)?;
+    print_u32(rt, offset)?;
+    print(rt, len)
 }
 
-fn program_case(geometry: Geometry, rule: u32, media: &mut [u8], place: usize)
+fn program_case(
+    rt: &impl Print,
+    geometry: Geometry,
+    rule: u32,
+    media: &mut [u8],
+    place: usize,
+) -> io::Result<()>
     requires { place < 63 }
 {
     let offset = OFFSETS[place / 9];
     let len = place % 9;
     let mut src = [0u8; 8];
     of_table(&mut src, place);
-    print_call(0, rule, geometry, media.len(), offset, len);
+    print_call(rt, 0, rule, geometry, media.len(), offset, len)?;
     let reply = device_calls::program(geometry, rule_of(rule), media, offset, &src[..len]);
-    print_u32(reply.refusal());
-    print_bytes(media);
+    print_u32(rt, reply.refusal())?;
+    print_bytes(rt, media)
 }
 
-fn read_into(geometry: Geometry, rule: u32, media: &[u8], offset: u32, dst: &mut [u8]) {
-    print_call(1, rule, geometry, media.len(), offset, dst.len());
+fn read_into(
+    rt: &impl Print,
+    geometry: Geometry,
+    rule: u32,
+    media: &[u8],
+    offset: u32,
+    dst: &mut [u8],
+) -> io::Result<()> {
+    print_call(rt, 1, rule, geometry, media.len(), offset, dst.len())?;
     let reply = device_calls::read(geometry, media, offset, dst);
-    print_u32(reply.refusal());
-    print_bytes(dst);
+    print_u32(rt, reply.refusal())?;
+    print_bytes(rt, dst)
 }
 
 // The buffer's bytes are 90 before.
-fn read_case(geometry: Geometry, rule: u32, media: &[u8], place: usize)
+fn read_case(
+    rt: &impl Print,
+    geometry: Geometry,
+    rule: u32,
+    media: &[u8],
+    place: usize,
+) -> io::Result<()>
     requires { place < 63 }
 {
     let offset = OFFSETS[place / 9];
     let len = place % 9;
     let mut buffer = [90u8; 8];
-    read_into(geometry, rule, media, offset, &mut buffer[..len]);
+    read_into(rt, geometry, rule, media, offset, &mut buffer[..len])
 }
 
-fn erase_case(geometry: Geometry, rule: u32, media: &mut [u8], place: usize)
+fn erase_case(
+    rt: &impl Print,
+    geometry: Geometry,
+    rule: u32,
+    media: &mut [u8],
+    place: usize,
+) -> io::Result<()>
     requires { place < 63 }
 {
     let offset = OFFSETS[place / 9];
     let len = place % 9;
-    print_call(2, rule, geometry, media.len(), offset, len);
+    print_call(rt, 2, rule, geometry, media.len(), offset, len)?;
     let reply = device_calls::erase(geometry, media, offset, len as u32);
-    print_u32(reply.refusal());
-    print_bytes(media);
+    print_u32(rt, reply.refusal())?;
+    print_bytes(rt, media)
 }
 
 // The calls on one device, each on the media as the one before left them.
-fn calls(geometry: Geometry, rule: u32, media: &mut [u8]) {
+fn calls(rt: &impl Print, geometry: Geometry, rule: u32, media: &mut [u8]) -> io::Result<()> {
     device::fill_erased(media);
     for place in 0..63 {
-        program_case(geometry, rule, media, place);
-        read_case(geometry, rule, media, place);
-        erase_case(geometry, rule, media, place);
+        program_case(rt, geometry, rule, media, place)?;
+        read_case(rt, geometry, rule, media, place)?;
+        erase_case(rt, geometry, rule, media, place)?;
     }
-    print_call(3, rule, geometry, media.len(), 0, 0);
+    print_call(rt, 3, rule, geometry, media.len(), 0, 0)?;
     let reply = device_calls::barrier(geometry, media);
-    print_u32(reply.refusal());
-    print_bytes(media);
+    print_u32(rt, reply.refusal())?;
+    print_bytes(rt, media)
 }
 
 fn units(capacity: u32, erase: u32, program: u32, read: u32) -> Geometry {
@@ -144,78 +170,89 @@ fn units(capacity: u32, erase: u32, program: u32, read: u32) -> Geometry {
 }
 
 // Two devices, units that do not nest, media shorter than the capacity, and units of 0 with media.
-fn devices(rule: u32) {
+fn devices(rt: &impl Print, rule: u32) -> io::Result<()> {
     let mut one = [0u8; 1];
     let mut fifteen = [0u8; 15];
     let mut sixteen = [0u8; 16];
     let mut twenty = [0u8; 20];
     let mut twenty_four = [0u8; 24];
-    calls(units(16, 8, 4, 4), rule, &mut sixteen);
-    calls(units(24, 8, 2, 1), rule, &mut twenty_four);
-    calls(units(20, 8, 4, 4), rule, &mut twenty);
-    calls(units(16, 8, 4, 4), rule, &mut fifteen);
-    calls(units(0, 0, 0, 0), rule, &mut one);
+    calls(rt, units(16, 8, 4, 4), rule, &mut sixteen)?;
+    calls(rt, units(24, 8, 2, 1), rule, &mut twenty_four)?;
+    calls(rt, units(20, 8, 4, 4), rule, &mut twenty)?;
+    calls(rt, units(16, 8, 4, 4), rule, &mut fifteen)?;
+    calls(rt, units(0, 0, 0, 0), rule, &mut one)
 }
 
 // What is asked of the media.
-fn print_questions(media: &[u8], offset: u32, src: &[u8], len: u32) {
-    print_flag(device_questions::would_set_a_bit(media, offset, src));
-    print_flag(device_questions::differs_from(media, offset, src));
-    print_flag(device::erase_would_change(media, offset, len));
+fn print_questions(
+    rt: &impl Print,
+    media: &[u8],
+    offset: u32,
+    src: &[u8],
+    len: u32,
+) -> io::Result<()> {
+    print_flag(rt, device_questions::would_set_a_bit(media, offset, src))?;
+    print_flag(rt, device_questions::differs_from(media, offset, src))?;
+    print_flag(rt, device::erase_would_change(media, offset, len))
 }
 
 // The cells that programming would leave: the number, how many, and a buffer of three bytes.
-fn print_postimage(media: &[u8], offset: u32, src: &[u8]) {
+fn print_postimage(rt: &impl Print, media: &[u8], offset: u32, src: &[u8]) -> io::Result<()> {
     let mut out = [90u8; 3];
     let answer = device::postimage_of(media, offset, src, &mut out);
-    print_u32(answer.refusal());
+    print_u32(rt, answer.refusal())?;
     match answer {
-        Postimage::Cells(count) => print(count),
-        Postimage::BufferTooShort => print(0),
+        Postimage::Cells(count) => print(rt, count)?,
+        Postimage::BufferTooShort => print(rt, 0)?,
     }
-    print_bytes(&out);
+    print_bytes(rt, &out)
 }
 
 // A part of twelve cells, and bytes for it.
-fn question_case(media: [u8; 12], place: usize)
+fn question_case(rt: &impl Print, media: [u8; 12], place: usize) -> io::Result<()>
     requires { place < 140 }
 {
     let offset = (place / 5 % 14) as u32;
     let len = place % 5;
     let mut src = [0u8; 4];
     of_table(&mut src, place);
-    print_u32(offset);
-    print(len);
-    print_questions(&media, offset, &src[..len], len as u32);
+    print_u32(rt, offset)?;
+    print(rt, len)?;
+    print_questions(rt, &media, offset, &src[..len], len as u32)?;
     let mut programmed = media;
-    print_flag(device::apply_program(&mut programmed, offset, &src[..len]));
-    print_bytes(&programmed);
-    print_postimage(&media, offset, &src[..len]);
+    print_flag(
+        rt,
+        device::apply_program(&mut programmed, offset, &src[..len]),
+    )?;
+    print_bytes(rt, &programmed)?;
+    print_postimage(rt, &media, offset, &src[..len])?;
     let mut erased = media;
-    print_flag(device::apply_erase(&mut erased, offset, len as u32));
-    print_bytes(&erased);
+    print_flag(rt, device::apply_erase(&mut erased, offset, len as u32))?;
+    print_bytes(rt, &erased)
 }
 
 // Of erased media.
-fn erased_cases() {
+fn erased_cases(rt: &impl Print) -> io::Result<()> {
     let erased = [0xFFu8; 12];
     for place in 0..70 {
-        question_case(erased, place);
+        question_case(rt, erased, place)?;
     }
+    Ok(())
 }
 
 // Of media with bytes of the table.
-fn written_cases() {
+fn written_cases(rt: &impl Print) -> io::Result<()> {
     let mut written = [0u8; 12];
     of_table(&mut written, 5);
     for place in 70..140 {
-        question_case(written, place);
+        question_case(rt, written, place)?;
     }
+    Ok(())
 }
 
-fn main() {
-    devices(0);
-    devices(1);
-    erased_cases();
-    written_cases();
+fn main(rt: HostRuntime) -> io::Result<()> {
+    devices(&rt, 0)?;
+    devices(&rt, 1)?;
+    erased_cases(&rt)?;
+    written_cases(&rt)
 }

@@ -2,26 +2,25 @@
 // that FNV's authors publish with their test suite (the ones without a terminating zero byte).
 #![tactic(auto)]
 
-use libc::STDOUT_FILENO;
+use std::io;
 
-fn show(text: &[u8]) {
-    io::write_all(STDOUT_FILENO, text);
-    io::write_all(STDOUT_FILENO, b"\t");
-    io::print_hex(STDOUT_FILENO, digest::digest(text), 16);
-    io::write_all(STDOUT_FILENO, b"\n");
+fn show(rt: &impl Print, text: &[u8]) -> io::Result<()> {
+    rt.write_all(text)?;
+    let value = digest::digest(text);
+    println!(rt; "\t{value:016x}")
 }
 
-fn main() {
-    show(b"");
-    show(b"a");
-    show(b"b");
-    show(b"c");
-    show(b"d");
-    show(b"e");
-    show(b"f");
-    show(b"fo");
-    show(b"foo");
-    show(b"foob");
-    show(b"fooba");
-    show(b"foobar");
+fn main(rt: HostRuntime) -> io::Result<()> {
+    show(&rt, b"")?;
+    show(&rt, b"a")?;
+    show(&rt, b"b")?;
+    show(&rt, b"c")?;
+    show(&rt, b"d")?;
+    show(&rt, b"e")?;
+    show(&rt, b"f")?;
+    show(&rt, b"fo")?;
+    show(&rt, b"foo")?;
+    show(&rt, b"foob")?;
+    show(&rt, b"fooba")?;
+    show(&rt, b"foobar")
 }

@@ -2,13 +2,13 @@
 // (document 01, "Scripts and the two programs"). A script that cannot be read to its end is not run.
 #![tactic(auto)]
 
-use libc::STDIN_FILENO;
 use printing::ENOUGH;
 
-fn main() {
+fn main(rt: HostRuntime) {
     let mut text = [0u8; ENOUGH];
-    let len = io::read_full(STDIN_FILENO, &mut text);
-    if printing::input_ended(len) {
-        printing::print_judge(&text[..len]);
+    let mut input = rt.stdin();
+    let len = printing::read_full(&mut input, &mut text);
+    if printing::input_ended(&rt, &mut input, len) {
+        printing::print_judge(&rt, &mut rt.stdout(), &text[..len]);
     }
 }

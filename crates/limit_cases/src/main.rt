@@ -2,14 +2,15 @@
 // one byte too few would show: both programs refuse it with 9, on line 0.
 #![tactic(auto)]
 
-use libc::STDIN_FILENO;
 use printing::ENOUGH;
 
-fn main() {
+fn main(rt: HostRuntime) {
     let mut text = [0u8; ENOUGH];
-    let len = io::read_full(STDIN_FILENO, &mut text);
-    if printing::input_ended(len) {
-        printing::print_sweep(&text[..len]);
-        printing::print_judge(&text[..len]);
+    let mut input = rt.stdin();
+    let len = printing::read_full(&mut input, &mut text);
+    if printing::input_ended(&rt, &mut input, len) {
+        let mut output = rt.stdout();
+        printing::print_sweep(&rt, &mut output, &text[..len]);
+        printing::print_judge(&rt, &mut output, &text[..len]);
     }
 }

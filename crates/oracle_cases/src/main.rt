@@ -8,9 +8,9 @@
 ghost use Rattle.std.specs.Prelude.{◌<◌, ◌≤◌};
 
 use first_entries::{StateAnswer, TornAnswer};
-use libc::STDOUT_FILENO;
 use model::{Durability, ListAnswer};
 use oracle::{Banks, RecordOption, Verdict};
+use std::io;
 
 const RECORDS: [u32; 3] = [5, 6, 9];
 
@@ -105,192 +105,204 @@ fn banks_of(place: usize) -> Banks
     }
 }
 
-fn print(n: u64) {
-    io::write_all(STDOUT_FILENO, b" ");
-    io::print_decimal(STDOUT_FILENO, n);
+fn print(rt: &impl Print, n: u64) -> io::Result<()> {
+    print!(rt; " {n}")
 }
 
-fn print_id(id: u32) {
-    print(id as u64);
+fn print_id(rt: &impl Print, id: u32) -> io::Result<()> {
+    print(rt, id as u64)
 }
 
-fn print_code(code: u8) {
-    print(code as u64);
+fn print_code(rt: &impl Print, code: u8) -> io::Result<()> {
+    print(rt, code as u64)
 }
 
-fn print_none() {
-    io::write_all(STDOUT_FILENO, b" -");
+fn print_none(rt: &impl Print) -> io::Result<()> {
+    rt.write_all(b" -")
 }
 
 // The first ids of a column, `many` of them.
-fn print_ids(column: &[u32], many: usize) {
+fn print_ids(rt: &impl Print, column: &[u32], many: usize) -> io::Result<()> {
     let mut i = 0;
     while i < column.len() {
         if i < many {
-            print_id(column[i]);
+            print_id(rt, column[i])?;
         }
         i += 1;
     }
+    Ok(())
 }
 
-fn print_codes(column: &[u8]) {
+fn print_codes(rt: &impl Print, column: &[u8]) -> io::Result<()> {
     let mut i = 0;
     while i < column.len() {
-        print_code(column[i]);
+        print_code(rt, column[i])?;
         i += 1;
     }
+    Ok(())
 }
 
-fn print_columns(ids: &[u32], states: &[u8], torn: &[u8]) {
-    io::write_all(STDOUT_FILENO, b"I");
-    print_ids(ids, ids.len());
-    io::write_all(STDOUT_FILENO, b" S");
-    print_codes(states);
-    io::write_all(STDOUT_FILENO, b" T");
-    print_codes(torn);
+fn print_columns(rt: &impl Print, ids: &[u32], states: &[u8], torn: &[u8]) -> io::Result<()> {
+    rt.write_all(b"I")?;
+    print_ids(rt, ids, ids.len())?;
+    rt.write_all(b" S")?;
+    print_codes(rt, states)?;
+    rt.write_all(b" T")?;
+    print_codes(rt, torn)
 }
 
-fn print_count(of: ListAnswer) {
+fn print_count(rt: &impl Print, of: ListAnswer) -> io::Result<()> {
     match of {
-        ListAnswer::ListRefused(number) => print_code(number),
-        ListAnswer::ListIs(count) => print(count as u64),
+        ListAnswer::ListRefused(number) => print_code(rt, number),
+        ListAnswer::ListIs(count) => print(rt, count as u64),
     }
 }
 
-fn print_column(of: ListAnswer, column: &[u32]) {
+fn print_column(rt: &impl Print, of: ListAnswer, column: &[u32]) -> io::Result<()> {
     match of {
-        ListAnswer::ListRefused(number) => print_code(number),
-        ListAnswer::ListIs(count) => print_ids(column, count),
+        ListAnswer::ListRefused(number) => print_code(rt, number),
+        ListAnswer::ListIs(count) => print_ids(rt, column, count),
     }
 }
 
-fn print_durability(of: Durability) {
+fn print_durability(rt: &impl Print, of: Durability) -> io::Result<()> {
     match of {
-        Durability::Attempted => print(0),
-        Durability::PossiblyDurable => print(1),
-        Durability::Acknowledged => print(2),
+        Durability::Attempted => print(rt, 0),
+        Durability::PossiblyDurable => print(rt, 1),
+        Durability::Acknowledged => print(rt, 2),
     }
 }
 
-fn print_state(of: StateAnswer) {
+fn print_state(rt: &impl Print, of: StateAnswer) -> io::Result<()> {
     match of {
-        StateAnswer::StateRefused(number) => print_code(number),
-        StateAnswer::NoState => print_none(),
-        StateAnswer::StateIs(state) => print_durability(state),
+        StateAnswer::StateRefused(number) => print_code(rt, number),
+        StateAnswer::NoState => print_none(rt),
+        StateAnswer::StateIs(state) => print_durability(rt, state),
     }
 }
 
-fn print_torn(of: TornAnswer) {
+fn print_torn(rt: &impl Print, of: TornAnswer) -> io::Result<()> {
     match of {
-        TornAnswer::TornRefused(number) => print_code(number),
-        TornAnswer::NoTorn => print_none(),
-        TornAnswer::TornIs(torn) => { if torn { print(1) } else { print(0) } }
+        TornAnswer::TornRefused(number) => print_code(rt, number),
+        TornAnswer::NoTorn => print_none(rt),
+        TornAnswer::TornIs(torn) => { if torn { print(rt, 1) } else { print(rt, 0) } }
     }
 }
 
 // Document 01's number of a verdict, and its values.
-fn print_verdict(of: Verdict) {
-    print_code(oracle::number(of));
+fn print_verdict(rt: &impl Print, of: Verdict) -> io::Result<()> {
+    print_code(rt, oracle::number(of))?;
     match of {
-        Verdict::Accepted => {}
-        Verdict::DuplicateRecordId(id) => print_id(id),
+        Verdict::Accepted => Ok(()),
+        Verdict::DuplicateRecordId(id) => print_id(rt, id),
         Verdict::NotAPrefix {
             position,
             expected,
             found,
         } => {
-            print(position as u64);
-            print_record(expected);
-            print_id(found);
+            print(rt, position as u64)?;
+            print_record(rt, expected)?;
+            print_id(rt, found)
         }
-        Verdict::RecoveredWhatWasNeverAttempted(id) => print_id(id),
-        Verdict::RecoveredATornRecord(id) => print_id(id),
-        Verdict::LostAnAcknowledgedRecord(id) => print_id(id),
-        Verdict::DispatchedWithoutADurableIntent(id) => print_id(id),
-        Verdict::NoAuthoritativeBank => {}
-        Verdict::AmbiguousAuthority(count) => print(count),
-        Verdict::Refused => {}
+        Verdict::RecoveredWhatWasNeverAttempted(id) => print_id(rt, id),
+        Verdict::RecoveredATornRecord(id) => print_id(rt, id),
+        Verdict::LostAnAcknowledgedRecord(id) => print_id(rt, id),
+        Verdict::DispatchedWithoutADurableIntent(id) => print_id(rt, id),
+        Verdict::NoAuthoritativeBank => Ok(()),
+        Verdict::AmbiguousAuthority(count) => print(rt, count),
+        Verdict::Refused => Ok(()),
     }
 }
 
-fn print_record(of: RecordOption) {
+fn print_record(rt: &impl Print, of: RecordOption) -> io::Result<()> {
     match of {
-        RecordOption::NoRecord => print_none(),
-        RecordOption::Record(id) => print_id(id),
+        RecordOption::NoRecord => print_none(rt),
+        RecordOption::Record(id) => print_id(rt, id),
     }
 }
 
-fn print_banks(of: Banks) {
+fn print_banks(rt: &impl Print, of: Banks) -> io::Result<()> {
     match of {
-        Banks::Absent => print_none(),
-        Banks::Count(count) => print(count),
+        Banks::Absent => print_none(rt),
+        Banks::Count(count) => print(rt, count),
     }
 }
 
 // What a ledger answers about a record.
-fn record_case(ids: &[u32], states: &[u8], torn: &[u8], id: u32) {
-    io::write_all(STDOUT_FILENO, b" R");
-    print_state(first_entries::state(ids, states, torn, id));
-    print_torn(first_entries::torn(ids, states, torn, id));
+fn record_case(
+    rt: &impl Print,
+    ids: &[u32],
+    states: &[u8],
+    torn: &[u8],
+    id: u32,
+) -> io::Result<()> {
+    rt.write_all(b" R")?;
+    print_state(rt, first_entries::state(ids, states, torn, id))?;
+    print_torn(rt, first_entries::torn(ids, states, torn, id))
 }
 
 // A ledger: N entries, its committed (C) and acknowledged (A) ids, and state and torn of each record (R).
-fn ledger_line(ids: &[u32], states: &[u8], torn: &[u8]) {
-    print_columns(ids, states, torn);
-    io::write_all(STDOUT_FILENO, b" N");
-    print_count(model::len(ids, states, torn));
+fn ledger_line(rt: &impl Print, ids: &[u32], states: &[u8], torn: &[u8]) -> io::Result<()> {
+    print_columns(rt, ids, states, torn)?;
+    rt.write_all(b" N")?;
+    print_count(rt, model::len(ids, states, torn))?;
     let mut column = [0u32; 2];
-    io::write_all(STDOUT_FILENO, b" C");
+    rt.write_all(b" C")?;
     let committed = ids_by_state::committed(ids, states, torn, &mut column);
-    print_column(committed, &column);
-    io::write_all(STDOUT_FILENO, b" A");
+    print_column(rt, committed, &column)?;
+    rt.write_all(b" A")?;
     let acknowledged = ids_by_state::acknowledged(ids, states, torn, &mut column);
-    print_column(acknowledged, &column);
-    record_case(ids, states, torn, RECORDS[0]);
-    record_case(ids, states, torn, RECORDS[1]);
-    record_case(ids, states, torn, RECORDS[2]);
-    io::write_all(STDOUT_FILENO, b"\n");
+    print_column(rt, acknowledged, &column)?;
+    record_case(rt, ids, states, torn, RECORDS[0])?;
+    record_case(rt, ids, states, torn, RECORDS[1])?;
+    record_case(rt, ids, states, torn, RECORDS[2])?;
+    rt.write_all(b"\n")
 }
 
 // A ledger, a history (H), dispatched ids (D), a bank count (B), and the verdict (V).
 fn verdict_line(
+    rt: &impl Print,
     ids: &[u32],
     states: &[u8],
     torn: &[u8],
     history: &[u32],
     dispatched: &[u32],
     banks: Banks,
-) {
-    print_columns(ids, states, torn);
-    io::write_all(STDOUT_FILENO, b" H");
-    print_ids(history, history.len());
-    io::write_all(STDOUT_FILENO, b" D");
-    print_ids(dispatched, dispatched.len());
-    io::write_all(STDOUT_FILENO, b" B");
-    print_banks(banks);
-    io::write_all(STDOUT_FILENO, b" V");
-    print_verdict(oracle::verify_oracle(ids, states, torn, history, dispatched, banks));
-    io::write_all(STDOUT_FILENO, b"\n");
+) -> io::Result<()> {
+    print_columns(rt, ids, states, torn)?;
+    rt.write_all(b" H")?;
+    print_ids(rt, history, history.len())?;
+    rt.write_all(b" D")?;
+    print_ids(rt, dispatched, dispatched.len())?;
+    rt.write_all(b" B")?;
+    print_banks(rt, banks)?;
+    rt.write_all(b" V")?;
+    print_verdict(
+        rt,
+        oracle::verify_oracle(ids, states, torn, history, dispatched, banks),
+    )?;
+    rt.write_all(b"\n")
 }
 
 // Document 01's example: ledger ids 5, 5 with bank count 0.
-fn example() {
+fn example(rt: &impl Print) -> io::Result<()> {
     let ids = [5u32, 5];
     let states = [2u8, 2];
     let torn = [0u8, 0];
     let history = [0u32; 1];
     let dispatched = [0u32; 1];
     verdict_line(
+        rt,
         &ids,
         &states,
         &torn,
         &history[..0],
         &dispatched[..0],
         Banks::Count(0),
-    );
+    )
 }
 
-fn ledger_case(place: usize)
+fn ledger_case(rt: &impl Print, place: usize) -> io::Result<()>
     requires { place < 157 }
 {
     let entries = entries_at(place);
@@ -298,10 +310,10 @@ fn ledger_case(place: usize)
     let ids = [id_of(entries.first), id_of(entries.second)];
     let states = [state_of(entries.first), state_of(entries.second)];
     let torn = [torn_of(entries.first), torn_of(entries.second)];
-    ledger_line(&ids[..many], &states[..many], &torn[..many]);
+    ledger_line(rt, &ids[..many], &states[..many], &torn[..many])
 }
 
-fn verdict_case(place: usize)
+fn verdict_case(rt: &impl Print, place: usize) -> io::Result<()>
     requires { place < 2041 }
 {
     let entries = entries_at(place / 13);
@@ -317,29 +329,32 @@ fn verdict_case(place: usize)
     let dispatched = place % 4;
     let intents = RECORDS;
     verdict_line(
+        rt,
         &ids[..many],
         &states[..many],
         &torn[..many],
         &history[..recovered],
         &intents[..dispatched],
         banks_of(place % 5),
-    );
+    )
 }
 
-fn ledger_cases() {
+fn ledger_cases(rt: &impl Print) -> io::Result<()> {
     for place in 0..157 {
-        ledger_case(place);
+        ledger_case(rt, place)?;
     }
+    Ok(())
 }
 
-fn verdict_cases() {
+fn verdict_cases(rt: &impl Print) -> io::Result<()> {
     for place in 0..2041 {
-        verdict_case(place);
+        verdict_case(rt, place)?;
     }
+    Ok(())
 }
 
-fn main() {
-    example();
-    ledger_cases();
-    verdict_cases();
+fn main(rt: HostRuntime) -> io::Result<()> {
+    example(&rt)?;
+    ledger_cases(&rt)?;
+    verdict_cases(&rt)
 }

@@ -5,67 +5,67 @@
 //     tests/differential/run sample parts > crates/part_cases/stdout
 #![tactic(auto)]
 
-use libc::STDOUT_FILENO;
+use std::io;
 use text_parts::Part;
 
-fn print_number(n: u64) {
-    io::write_all(STDOUT_FILENO, b" ");
-    io::print_decimal(STDOUT_FILENO, n);
+fn print_number(rt: &impl Print, n: u64) -> io::Result<()> {
+    print!(rt; " {n}")
 }
 
 // What a part answered, and its bytes.
-fn show(part: Part, out: &[u8]) {
+fn show(rt: &impl Print, part: Part, out: &[u8]) -> io::Result<()> {
     match part {
         Part::NoRoom(number) => {
-            io::write_all(STDOUT_FILENO, b" refused");
-            print_number(number as u64);
-            io::write_all(STDOUT_FILENO, b"\n");
+            rt.write_all(b" refused")?;
+            print_number(rt, number as u64)?;
+            rt.write_all(b"\n")
         }
         Part::Lines(lines, bytes, left) => {
-            print_number(lines);
-            print_number(bytes as u64);
-            print_number(left);
-            io::write_all(STDOUT_FILENO, b"\n");
+            print_number(rt, lines)?;
+            print_number(rt, bytes as u64)?;
+            print_number(rt, left)?;
+            rt.write_all(b"\n")?;
             let n = basics::lower(bytes, out.len());
-            io::write_all(STDOUT_FILENO, &out[..n]);
+            rt.write_all(&out[..n])
         }
     }
 }
 
-fn sweep_case(text: &[u8], from: u64, out: &mut [u8]) {
-    io::write_all(STDOUT_FILENO, b"sweep");
-    print_number(out.len() as u64);
-    print_number(from);
+fn sweep_case(rt: &impl Print, text: &[u8], from: u64, out: &mut [u8]) -> io::Result<()> {
+    rt.write_all(b"sweep")?;
+    print_number(rt, out.len() as u64)?;
+    print_number(rt, from)?;
     let part = text_parts::sweep_part(text, from, out);
-    show(part, out);
+    show(rt, part, out)
 }
 
-fn judge_case(text: &[u8], from: u64, out: &mut [u8]) {
-    io::write_all(STDOUT_FILENO, b"judge");
-    print_number(out.len() as u64);
-    print_number(from);
+fn judge_case(rt: &impl Print, text: &[u8], from: u64, out: &mut [u8]) -> io::Result<()> {
+    rt.write_all(b"judge")?;
+    print_number(rt, out.len() as u64)?;
+    print_number(rt, from)?;
     let part = text_parts::judge_part(text, from, out);
-    show(part, out);
+    show(rt, part, out)
 }
 
 // From each of thirteen lines on, and past them.
-fn line_cases(text: &[u8], out: &mut [u8]) {
+fn line_cases(rt: &impl Print, text: &[u8], out: &mut [u8]) -> io::Result<()> {
     for from in 0..14 {
-        sweep_case(text, from, out);
-        judge_case(text, from, out);
+        sweep_case(rt, text, from, out)?;
+        judge_case(rt, text, from, out)?;
     }
+    Ok(())
 }
 
-fn room_cases(text: &[u8]) {
-    line_cases(text, &mut [0u8; 0]);
-    line_cases(text, &mut [0u8; 5]);
-    line_cases(text, &mut [0u8; 8]);
-    line_cases(text, &mut [0u8; 17]);
-    line_cases(text, &mut [0u8; 40]);
-    line_cases(text, &mut [0u8; 256]);
+fn room_cases(rt: &impl Print, text: &[u8]) -> io::Result<()> {
+    line_cases(rt, text, &mut [0u8; 0])?;
+    line_cases(rt, text, &mut [0u8; 5])?;
+    line_cases(rt, text, &mut [0u8; 8])?;
+    line_cases(rt, text, &mut [0u8; 17])?;
+    line_cases(rt, text, &mut [0u8; 40])?;
+    line_cases(rt, text, &mut [0u8; 256])
 }
 
-fn main() {
-    room_cases(b"G\t4\t4\t1\t1\ta\ts\nB\t7\nP\t0\t00\nS\nN\n");
-    room_cases(b"G\t4\t4\t1\t1\ta\ts\nX\n");
+fn main(rt: HostRuntime) -> io::Result<()> {
+    room_cases(&rt, b"G\t4\t4\t1\t1\ta\ts\nB\t7\nP\t0\t00\nS\nN\n")?;
+    room_cases(&rt, b"G\t4\t4\t1\t1\ta\ts\nX\n")
 }

@@ -1,2 +1,2 @@
--- What the private functions of `src/` print. Definitions only; assumes nothing.
+-- What the functions of `src/` print and write. Definitions only; assumes nothing.
 pub mod Output

@@ -1,6 +1,7 @@
 -- What is told of a text that is printed line by line, and which lines a program has. Definitions only; assumes nothing.
-use Rattle.std.specs.Prelude.{Bool, true, false, ℕ, length, take, eqb}
+use Rattle.std.specs.Prelude.{◌≡◌, ◌≤◌, Bool, true, false, ℕ, length, take, eqb, Option}
 use mathlib.Core.List.{List, flatten}
+use Rattle.std.specs.Io.KnownBytes.{Appends}
 use Rattle.text_of_runs.specs.Printout.{sweep_lines, judge_lines}
 use Rattle.printing.specs.declared.Printed.{Printed}
 
@@ -13,3 +14,11 @@ printed_of ls lines = record { lines = lines; bytes = length (flatten (take line
 abbrev pub lines_for : (judged : Bool) → (text : List ℕ) → List (List ℕ)
 lines_for true text = judge_lines text
 lines_for false text = sweep_lines text
+
+-- A writer took the front of `bytes`, and all of them where that is `told`; private contracts alone cite it.
+abbrev pub FrontOf : (old new : Option (List ℕ)) → (bytes : List ℕ) → (told : Bool) → Type 0
+FrontOf old new bytes told = (n : ℕ) × (n ≤ length bytes) × Appends old new (take n bytes) × (told ≡ true → n ≡ length bytes)
+
+-- A writer took the front of the text that the lines `ls` make: the bytes that are told at least, and the whole where all is told as taken.
+abbrev pub Written : (ls : List (List ℕ)) → Printed → (old new : Option (List ℕ)) → Type 0
+Written ls r old new = (n : ℕ) × (r.bytes ≤ n) × Appends old new (take n (flatten ls)) × (r.taken ≡ true → n ≡ length (flatten ls))

@@ -1,14 +1,18 @@
 // `sweep` and `judge` on standard output: one part of the text after the other, each from the line where the one before ended, up to
-// the first that is not taken. No contract can say what is written. What is told are lines of document 01's text from the first on,
-// with their bytes and whether they are all, and each part is what `text_parts` promises.
+// the first that is not taken. What is told are lines of document 01's text from the first on, with their bytes and whether they are
+// all, and each part is what `text_parts` promises. Readers and writers are any whose bytes a contract can name: of the script, what is
+// taken is what was read; of the text, what is written is a front, and the whole where all is told as taken. No contract says what the
+// system's own standard input and output give and take.
 #![tactic(auto)]
 
-ghost use Rattle.std.specs.Prelude.{◌≡◌, true, ◌≤◌, length, drop};
+ghost use Rattle.std.specs.Prelude.{◌≡◌, ◌≢◌, true, ◌≤◌, length, take, drop, IfOk};
+ghost use Rattle.std.specs.Io.KnownBytes.{Consumes, IsAtEnd, ReadConsumes, WriteAppends};
 ghost use Rattle.text_of_runs.specs.Printout.{sweep_lines, judge_lines};
 ghost use Rattle.text_parts.specs.Parts.{part_left, part_of};
-ghost use Rattle.printing.specs.Output.{printed_of, lines_for};
+ghost use Rattle.printing.specs.Output.{printed_of, lines_for, FrontOf, Written};
 
-use libc::{STDERR_FILENO, STDIN_FILENO, STDOUT_FILENO};
+use std::io;
+use std::io::{ErrorKind, Read, Write};
 use text_parts::Part;
 
 // One byte more than the longest script has: enough to know that a text is too long.
@@ -22,23 +26,54 @@ pub struct Printed {
     pub taken: bool,
 }
 
-// Whether standard input has ended behind the bytes taken, or enough were taken. A read that fails is no end: a script that was not
-// read to its end is another script.
-pub fn input_ended(taken: usize) -> bool
-    ensures { taken ≡ 65537 → result ≡ true }
+// One read, made again where a signal interrupts it.
+fn read_some<R: Read>(input: &mut R, buf: &mut [u8]) -> io::Result<usize>
+    ensures within { IfOk result (λ n. n ≤ length buf.new) }
+    ensures bytes { ReadConsumes (R.remaining input.old) (R.remaining input.new) result buf.new }
+{
+    for _ in 0..u64::MAX {
+        match input.read(buf) {
+            Ok(n) => return Ok(n),
+            Err(e) => {
+                if e.kind() != ErrorKind::Interrupted {
+                    return Err(e);
+                }
+            }
+        }
+    }
+    Err(io::Error::from(ErrorKind::Interrupted))
+}
+
+// Reads until the buffer is full, the input ends or a read fails: how many bytes stand at the buffer's start.
+pub fn read_full<R: Read>(input: &mut R, text: &mut [u8]) -> usize
+    ensures within { result ≤ length text.new }
+    ensures bytes { Consumes (R.remaining input.old) (R.remaining input.new) (take result text.new) }
+{
+    let mut taken = 0;
+    while taken < text.len() {
+        match read_some(input, &mut text[taken..]) {
+            Ok(0) => break,
+            Ok(got) => taken += got,
+            Err(_) => break,
+        }
+    }
+    taken
+}
+
+// Whether the input has ended behind the bytes taken, or enough were taken. A read that fails is no end: a script that was not read to
+// its end is another script.
+pub fn input_ended<R: Read>(rt: &impl Eprint, input: &mut R, taken: usize) -> bool
+    ensures enough { taken ≡ 65537 → result ≡ true }
+    ensures ended { taken ≢ 65537 → result ≡ true → IsAtEnd (R.remaining input.old) }
 {
     if taken == ENOUGH {
         return true;
     }
     let mut next = [0u8; 1];
-    let got = libc::read(STDIN_FILENO, &mut next);
-    if got == 0 {
+    if let Ok(0) = read_some(input, &mut next) {
         return true;
     }
-    io::write_all(
-        STDERR_FILENO,
-        b"standard input could not be read to its end\n",
-    );
+    let _ = rt.eprintln("standard input could not be read to its end");
     false
 }
 
@@ -52,21 +87,47 @@ fn part_of(judged: bool, text: &[u8], from: u64, out: &mut [u8]) -> Part
     text_parts::sweep_part(text, from, out)
 }
 
-// Writes bytes to standard output: whether it took them.
-fn hand_over(bytes: &[u8]) -> bool {
-    let taken = io::write_all(STDOUT_FILENO, bytes);
-    if !taken {
-        io::write_all(
-            STDERR_FILENO,
-            b"standard output took no more, and the text is cut off\n",
-        );
+// One write, made again where a signal interrupts it.
+fn write_some<W: Write>(to: &mut W, bytes: &[u8]) -> io::Result<usize>
+    ensures within { IfOk result (λ n. n ≤ length bytes.now) }
+    ensures bytes { WriteAppends (W.contents to.old) (W.contents to.new) result bytes.now }
+{
+    for _ in 0..u64::MAX {
+        match to.write(bytes) {
+            Ok(n) => return Ok(n),
+            Err(e) => {
+                if e.kind() != ErrorKind::Interrupted {
+                    return Err(e);
+                }
+            }
+        }
     }
-    taken
+    Err(io::Error::from(ErrorKind::Interrupted))
 }
 
-// Prints a program's text up to the first part that standard output does not take: no run is made for nobody.
-fn print(judged: bool, text: &[u8]) -> Printed
-    ensures { (result.lines ≤ length (lines_for judged text.now)) × (result ≡ printed_of (lines_for judged text.now) result.lines) }
+// Writes bytes up to the first that are not taken: whether all were.
+fn hand_over<W: Write>(rt: &impl Eprint, to: &mut W, bytes: &[u8]) -> bool
+    ensures { FrontOf (W.contents to.old) (W.contents to.new) bytes.now result }
+{
+    let mut done = 0;
+    while done < bytes.len() {
+        match write_some(to, &bytes[done..]) {
+            Ok(0) => break,
+            Ok(n) => done += n,
+            Err(_) => break,
+        }
+    }
+    if done < bytes.len() {
+        let _ = rt.eprintln("standard output took no more, and the text is cut off");
+        return false;
+    }
+    true
+}
+
+// Prints a program's text up to the first part that is not taken: no run is made for nobody.
+fn print<W: Write>(rt: &impl Eprint, to: &mut W, judged: bool, text: &[u8]) -> Printed
+    ensures told { (result.lines ≤ length (lines_for judged text.now)) × (result ≡ printed_of (lines_for judged text.now) result.lines) }
+    ensures written { Written (lines_for judged text.now) result (W.contents to.old) (W.contents to.new) }
 {
     let mut out = [0u8; 262144];
     let mut from: u64 = 0;
@@ -83,7 +144,7 @@ fn print(judged: bool, text: &[u8]) -> Printed
         };
         let next = from + lines;
         let sum = printed + bytes as u64;
-        if !hand_over(&out[..bytes]) {
+        if !hand_over(rt, to, &out[..bytes]) {
             return Printed {
                 lines: from,
                 bytes: printed,
@@ -103,15 +164,17 @@ fn print(judged: bool, text: &[u8]) -> Printed
 }
 
 // Prints every run of a script with its ledger, or what refuses it.
-pub fn print_sweep(text: &[u8]) -> Printed
-    ensures { (result.lines ≤ length (sweep_lines text.now)) × (result ≡ printed_of (sweep_lines text.now) result.lines) }
+pub fn print_sweep<W: Write>(rt: &impl Eprint, to: &mut W, text: &[u8]) -> Printed
+    ensures told { (result.lines ≤ length (sweep_lines text.now)) × (result ≡ printed_of (sweep_lines text.now) result.lines) }
+    ensures written { Written (sweep_lines text.now) result (W.contents to.old) (W.contents to.new) }
 {
-    print(false, text)
+    print(rt, to, false, text)
 }
 
 // Prints every run of a script with the verdict on its suggested history, or what refuses it.
-pub fn print_judge(text: &[u8]) -> Printed
-    ensures { (result.lines ≤ length (judge_lines text.now)) × (result ≡ printed_of (judge_lines text.now) result.lines) }
+pub fn print_judge<W: Write>(rt: &impl Eprint, to: &mut W, text: &[u8]) -> Printed
+    ensures told { (result.lines ≤ length (judge_lines text.now)) × (result ≡ printed_of (judge_lines text.now) result.lines) }
+    ensures written { Written (judge_lines text.now) result (W.contents to.old) (W.contents to.new) }
 {
-    print(true, text)
+    print(rt, to, true, text)
 }

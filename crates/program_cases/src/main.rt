@@ -7,50 +7,45 @@
 ghost use Rattle.std.specs.Prelude.{◌≤◌, length};
 
 use basics::store_u8;
-use libc::STDOUT_FILENO;
+use std::io;
 
 // A byte of a text; a tab, an LF and a CR as they are written in a program.
-fn print_byte(byte: u8) {
+fn print_byte(rt: &impl Print, byte: u8) -> io::Result<()> {
     match byte {
-        b'\t' => {
-            io::write_all(STDOUT_FILENO, b"\\t");
-        }
-        b'\n' => {
-            io::write_all(STDOUT_FILENO, b"\\n");
-        }
-        b'\r' => {
-            io::write_all(STDOUT_FILENO, b"\\r");
-        }
-        _ => {
-            io::write_all(STDOUT_FILENO, &[byte]);
-        }
+        b'\t' => rt.write_all(b"\\t"),
+        b'\n' => rt.write_all(b"\\n"),
+        b'\r' => rt.write_all(b"\\r"),
+        _ => rt.write_all(&[byte]),
     }
 }
 
-fn print_text(text: &[u8]) {
+fn print_text(rt: &impl Print, text: &[u8]) -> io::Result<()> {
     for i in 0..text.len() {
-        print_byte(text[i]);
+        print_byte(rt, text[i])?;
     }
+    Ok(())
 }
 
 // A text, or how many bytes it has where it is too long to show.
-fn show(text: &[u8]) {
+fn show(rt: &impl Print, text: &[u8]) -> io::Result<()> {
     if text.len() > 1000 {
-        io::print_decimal(STDOUT_FILENO, text.len() as u64);
+        print!(rt; "{}", text.len())?;
     } else {
-        print_text(text);
+        print_text(rt, text)?;
     }
-    io::write_all(STDOUT_FILENO, b"\n");
+    rt.write_all(b"\n")
 }
 
 // A script, and what `judge` or `sweep` prints for it.
-fn script_case(judged: bool, text: &[u8]) {
-    show(text);
+fn script_case(rt: &(impl Print + Eprint), judged: bool, text: &[u8]) -> io::Result<()> {
+    show(rt, text)?;
+    let mut output = io::writer(rt);
     if judged {
-        printing::print_judge(text);
+        printing::print_judge(rt, &mut output, text);
     } else {
-        printing::print_sweep(text);
+        printing::print_sweep(rt, &mut output, text);
     }
+    Ok(())
 }
 
 // Where the text that starts at a place ends.
@@ -69,18 +64,20 @@ fn end_of(texts: &[u8], from: usize) -> usize
 }
 
 // Texts, each ended by a semicolon.
-fn text_cases(judged: bool, texts: &[u8]) {
+fn text_cases(rt: &(impl Print + Eprint), judged: bool, texts: &[u8]) -> io::Result<()> {
     let mut at = 0;
     while at < texts.len() {
         let end = end_of(texts, at);
-        script_case(judged, &texts[at..end]);
+        script_case(rt, judged, &texts[at..end])?;
         at = end + 1;
     }
+    Ok(())
 }
 
 // Document 01's worked example; under each pair of letters; without its end, barrier, begin or program; with a second record.
-fn worked_cases(judged: bool) {
+fn worked_cases(rt: &(impl Print + Eprint), judged: bool) -> io::Result<()> {
     text_cases(
+        rt,
         judged,
         b"G\t4\t4\t1\t1\ta\ts\nB\t7\nP\t0\t00\nS\nN\n;\
         G\t4\t4\t1\t1\ta\tc\nB\t7\nP\t0\t00\nS\nN\n;\
@@ -96,12 +93,13 @@ fn worked_cases(judged: bool) {
         G\t4\t4\t1\t1\ta\tc\nB\t7\nP\t0\t00\nS\nN\nB\t8\nP\t1\t00\nS\nN\n;\
         G\t4\t4\t1\t1\tr\ts\nB\t0\nP\t0\t00\nB\t4294967295\nP\t1\t00\nS\n;\
         G\t4\t4\t1\t1\tr\tc\nB\t0\nP\t0\t00\nB\t4294967295\nP\t1\t00\nS\n;",
-    );
+    )
 }
 
 // No operation: no line after the first, on devices of every kind; marks alone, and ranges of operations that are none.
-fn empty_cases(judged: bool) {
+fn empty_cases(rt: &(impl Print + Eprint), judged: bool) -> io::Result<()> {
     text_cases(
+        rt,
         judged,
         b"G\t1\t1\t1\t1\ta\ts\n;\
         G\t1\t1\t1\t1\tr\tc\n;\
@@ -123,12 +121,13 @@ fn empty_cases(judged: bool) {
         G\t4\t4\t1\t1\ta\tc\nB\t1\nM\t2\t3\t4\nB\t3\n;\
         G\t4\t4\t1\t1\tr\ts\nP\t0\t\n;\
         G\t4\t4\t1\t1\tr\tc\nE\t0\t0\n;",
-    );
+    )
 }
 
 // Programs: of nothing, of whole units and several, at each place; bytes that change no cell, and padding, which is not torn.
-fn unit_cases(judged: bool) {
+fn unit_cases(rt: &(impl Print + Eprint), judged: bool) -> io::Result<()> {
     text_cases(
+        rt,
         judged,
         b"G\t4\t4\t1\t1\ta\ts\nB\t1\nP\t0\t\nS\n;\
         G\t4\t4\t1\t1\ta\ts\nB\t1\nP\t4\t\nS\n;\
@@ -152,13 +151,14 @@ fn unit_cases(judged: bool) {
         G\t8\t4\t4\t4\tr\tc\nB\t1\nP\t0\t00000000ffffffff\nS\n;\
         G\t8\t4\t2\t1\ta\ts\nB\t9\nP\t2\t123456789abc\nS\nN\n;\
         G\t8\t4\t2\t1\tr\ts\nB\t9\nP\t2\t123456789abc\nS\nN\n;",
-    );
+    )
 }
 
 // Programs over the same cells: again, over one another, with and without a barrier between; bits set without an erase, and
 // after one.
-fn again_cases(judged: bool) {
+fn again_cases(rt: &(impl Print + Eprint), judged: bool) -> io::Result<()> {
     text_cases(
+        rt,
         judged,
         b"G\t4\t4\t1\t1\ta\ts\nB\t1\nP\t0\t00\nP\t0\t00\nS\n;\
         G\t4\t4\t1\t1\ta\tc\nB\t1\nP\t0\t00\nP\t0\t00\nS\n;\
@@ -178,12 +178,13 @@ fn again_cases(judged: bool) {
         G\t4\t4\t1\t1\tr\tc\nB\t1\nP\t0\t00\nN\nE\t0\t4\nB\t2\nP\t0\t01\nS\n;\
         G\t4\t4\t1\t1\tr\tc\nB\t1\nP\t0\t00ff\nS\nN\nB\t2\nP\t0\t00fe\nS\nN\n;\
         G\t4\t2\t2\t2\ta\tc\nB\t1\nP\t0\t00ff\nB\t2\nP\t0\tff00\nB\t3\nP\t0\t0000\nS\n;",
-    );
+    )
 }
 
 // Erases: of nothing, of erased blocks, of one and several, after a program; one that fails and is done again.
-fn erase_cases(judged: bool) {
+fn erase_cases(rt: &(impl Print + Eprint), judged: bool) -> io::Result<()> {
     text_cases(
+        rt,
         judged,
         b"G\t4\t4\t1\t1\ta\ts\nB\t1\nE\t0\t0\nS\n;\
         G\t4\t4\t1\t1\ta\ts\nB\t1\nE\t0\t4\nS\n;\
@@ -202,12 +203,13 @@ fn erase_cases(judged: bool) {
         G\t16\t8\t4\t4\ta\ts\nB\t1\nE\t0\t16\nS\nN\n;\
         G\t12\t4\t2\t1\ta\tc\nP\t4\t0000\nB\t1\nE\t0\t12\nS\n;\
         G\t16384\t4096\t4096\t4096\ta\ts\nB\t1\nE\t0\t16384\nS\n;",
-    );
+    )
 }
 
 // Barriers: alone, several, before and after; one that fails acknowledges nothing.
-fn barrier_cases(judged: bool) {
+fn barrier_cases(rt: &(impl Print + Eprint), judged: bool) -> io::Result<()> {
     text_cases(
+        rt,
         judged,
         b"G\t4\t4\t1\t1\ta\ts\nS\n;\
         G\t4\t4\t1\t1\ta\tc\nS\n;\
@@ -220,13 +222,14 @@ fn barrier_cases(judged: bool) {
         G\t4\t4\t1\t1\ta\tc\nB\t1\nP\t0\t00\nS\nP\t1\t00\nN\nS\n;\
         G\t4\t4\t1\t1\ta\tc\nB\t1\nP\t0\t00\nS\nP\t1\t\nS\n;\
         G\t4\t4\t1\t1\ta\tc\nB\t1\nP\t0\t00\nS\nE\t0\t0\n;",
-    );
+    )
 }
 
 // Ranges: of operations recorded already, of later ones, backwards, over one another. A writer that stops meets 26 by the first
 // kind.
-fn range_cases(judged: bool) {
+fn range_cases(rt: &(impl Print + Eprint), judged: bool) -> io::Result<()> {
     text_cases(
+        rt,
         judged,
         b"G\t4\t4\t1\t1\ta\tc\nP\t0\t00\nS\nM\t1\t0\t1\n;\
         G\t4\t4\t1\t1\ta\tc\nP\t0\t00\nS\nM\t1\t0\t2\n;\
@@ -260,12 +263,13 @@ fn range_cases(judged: bool) {
         G\t4\t4\t1\t1\ta\ts\nS\nM\t1\t1\t0\nS\n;\
         G\t4\t4\t1\t1\ta\ts\nP\t4\t\nM\t1\t0\t1\n;\
         G\t4\t4\t1\t1\ta\ts\nB\t1\nP\t0\t00\nS\nN\nM\t9\t4294967295\t0\n;",
-    );
+    )
 }
 
 // Calls that the geometry refuses, 4 to 6, and 20: a writer that stops returns it (24), one that carries on leaves it out.
-fn refused_cases(judged: bool) {
+fn refused_cases(rt: &(impl Print + Eprint), judged: bool) -> io::Result<()> {
     text_cases(
+        rt,
         judged,
         b"G\t8\t4\t2\t1\ta\ts\nP\t1\t0000\n;\
         G\t8\t4\t2\t1\ta\tc\nP\t1\t0000\n;\
@@ -295,12 +299,13 @@ fn refused_cases(judged: bool) {
         G\t4\t4\t1\t1\tr\tc\nB\t1\nP\t0\t00\nP\t0\t80\nS\nN\nB\t2\nP\t0\t80\nS\n;\
         G\t4\t4\t1\t1\ta\ts\nS\nS\nS\nP\t9\t00\nS\n;\
         G\t8\t4\t2\t1\tr\tc\nB\t1\nP\t0\t0000\nP\t1\t00\nP\t0\t00\nP\t8\t0000\nP\t0\tffff\nS\nN\n;",
-    );
+    )
 }
 
 // Ids that come twice (31), and histories that skip a torn record (32).
-fn history_cases(judged: bool) {
+fn history_cases(rt: &(impl Print + Eprint), judged: bool) -> io::Result<()> {
     text_cases(
+        rt,
         judged,
         b"G\t4\t4\t1\t1\ta\tc\nB\t1\nP\t0\t00\nB\t1\nP\t1\t00\nS\n;\
         G\t4\t4\t1\t1\ta\ts\nB\t1\nP\t0\t0000\nB\t1\nP\t2\t00\nS\n;\
@@ -315,12 +320,13 @@ fn history_cases(judged: bool) {
         G\t4\t2\t1\t1\ta\tc\nP\t0\t00000000\nB\t1\nE\t0\t4\nB\t2\nP\t0\t0f\nS\n;\
         G\t4\t4\t1\t1\ta\tc\nP\t0\t0000\nP\t2\t00\nS\nM\t2\t1\t2\nM\t1\t0\t1\nM\t3\t1\t2\n;\
         G\t4\t4\t1\t1\ta\tc\nB\t4294967295\nP\t0\t0000\nB\t4294967294\nP\t2\t00\nB\t0\nP\t3\t00\nS\n;",
-    );
+    )
 }
 
 // Line 1: absent, of another kind, of too few and too many fields, without its LF; letters and numbers that are none.
-fn head_cases(judged: bool) {
+fn head_cases(rt: &(impl Print + Eprint), judged: bool) -> io::Result<()> {
     text_cases(
+        rt,
         judged,
         b";\
         \n;\
@@ -335,12 +341,13 @@ fn head_cases(judged: bool) {
         G\t4\t4\t1\t01\ta\ts\n;\
         G\t4\t4\t1\t\ta\ts\n;\
         G\t4294967296\t4\t1\t1\ta\ts\n;",
-    );
+    )
 }
 
 // Line 1: what its units refuse, 1 to 3 and 10, after 8 and before a later line's 8.
-fn geometry_cases(judged: bool) {
+fn geometry_cases(rt: &(impl Print + Eprint), judged: bool) -> io::Result<()> {
     text_cases(
+        rt,
         judged,
         b"G\t0\t4\t1\t1\ta\ts\n;\
         G\t4\t0\t1\t1\ta\ts\n;\
@@ -366,13 +373,14 @@ fn geometry_cases(judged: bool) {
         G\t2\t4\t1\t1\ta\ts\nx\n;\
         G\t16388\t4\t4\t4\ta\ts\nx\n;\
         \tG\t4\t4\t1\t1\ta\ts\n;",
-    );
+    )
 }
 
 // Other lines that are none: a letter without a meaning, a second line 1, barriers and marks with fields too few and too many,
 // or numbers that are none.
-fn line_cases(judged: bool) {
+fn line_cases(rt: &(impl Print + Eprint), judged: bool) -> io::Result<()> {
     text_cases(
+        rt,
         judged,
         b"G\t4\t4\t1\t1\ta\ts\nX\n;\
         G\t4\t4\t1\t1\ta\ts\ns\n;\
@@ -401,12 +409,13 @@ fn line_cases(judged: bool) {
         G\t4\t4\t1\t1\ta\ts\nM\t\t2\t3\n;\
         G\t4\t4\t1\t1\ta\ts\nS\nS\nM\t1\t00\t3\n;\
         G\t4\t4\t1\t1\ta\ts\nM\t1\t2\t4294967296\n;",
-    );
+    )
 }
 
 // Erases and programs that are none; then a line that is none after a call that the geometry refuses, and after a whole script.
-fn field_cases(judged: bool) {
+fn field_cases(rt: &(impl Print + Eprint), judged: bool) -> io::Result<()> {
     text_cases(
+        rt,
         judged,
         b"G\t4\t4\t1\t1\ta\ts\nE\t1\n;\
         G\t4\t4\t1\t1\ta\ts\nE\t0\t4\t4\n;\
@@ -429,12 +438,13 @@ fn field_cases(judged: bool) {
         G\t4\t4\t1\t1\ta\ts\np\t0\t00\n;\
         G\t4\t4\t1\t1\ta\ts\nP\t9\t00\nx\n;\
         G\t4\t4\t1\t1\ta\ts\nB\t1\nP\t0\t00\nS\nN\nB\t2\nP\t1\t00\nS\nN\nx\n;",
-    );
+    )
 }
 
 // Drawn once by the layer's generator from what has few runs.
-fn drawn_cases(judged: bool) {
+fn drawn_cases(rt: &(impl Print + Eprint), judged: bool) -> io::Result<()> {
     text_cases(
+        rt,
         judged,
         b"G\t8\t4\t4\t2\tr\tc\nB\t1\nP\t0\t000000ff\nP\t0\t9cdc1971ffffffff\nP\t0\t6cdbd64e\nP\t4\tff000ff0\nB\t2\nS\nP\t4\t0ff0f0ff0fffffff\n;\
         G\t16\t8\t4\t1\tr\ts\nB\t2\nP\t0\t00000000\nP\t4\t0ffff0ff\nP\t4\t0ffff0ff\nS\n;\
@@ -458,12 +468,13 @@ fn drawn_cases(judged: bool) {
         G\t320\t64\t4\t1\tr\tc\nM\t1\t2\t1\nS\nN\nN\nN\nM\t2\t3\t2\nN\nP\t4294967292\td2ae6ad3e43f4776cef51cc93a6597ff\nP\t4294967292\td2ae6ad3e43f4776cef51cc93a6597ff\nE\t128\t192\nM\t3\t5\t4\nP\t4294967292\td2ae6ad3e43f4776cef51cc93a6597ff\n;\
         G\t1\t1\t1\t1\tr\tc\nB\t1\nP\t1\t\nP\t0\t\nP\t0\t\nS\nN\nB\t2\nP\t0\t5525ffff\nP\t0\t\nS\nB\t3\nP\t0\t\nP\t0\t00\nN\n;\
         G\t2\t1\t1\t1\ta\ts\nB\t4294967196\nP\t0\t00\nP\t0\t00ff\nP\t0\t00ff\nS\nN\n;",
-    );
+    )
 }
 
 // The second half of those drawn.
-fn more_drawn_cases(judged: bool) {
+fn more_drawn_cases(rt: &(impl Print + Eprint), judged: bool) -> io::Result<()> {
     text_cases(
+        rt,
         judged,
         b"G\t20\t4\t2\t1\ta\ts\nE\t0\t16\nE\t4\t12\nB\t1\nE\t16\t0\nP\t12\t62ff\n;\
         G\t2\t2\t2\t2\ta\tc\nB\t4294967196\nM\t4294967197\t0\t0\nP\t0\t23ff\nM\t4294967198\t1\t2\nP\t0\t\nS\nS\nB\t4294967199\nE\t0\t2\nB\t4294967200\nM\t2\t0\t6\nN\nP\t0\t07af\nP\t0\t07af\nM\t4294967202\t8\t8\nB\t4294967203\n;\
@@ -487,7 +498,7 @@ fn more_drawn_cases(judged: bool) {
         G\t12\t4\t4\t1\tr\ts\nN\nE\t0\t0\nE\t8\t4\nP\t4\t5f7a841785e7e1ff\nS\n;\
         G\t1024\t1024\t128\t8\tr\ts\nP\t0\t\nP\t512\t\nP\t512\t\nP\t512\t\nP\t512\t\nP\t896\t\nE\t0\t0\nP\t896\t\nP\t896\t\nP\t896\t\nB\t4294967196\nB\t4294967197\nB\t4294967198\nP\t512\t\nB\t4294967199\nP\t896\t\nP\t128\t\nP\t256\t\nS\n;\
         G\t16\t8\t8\t4\tr\ts\nM\t1\t0\t2764\nP\t8\t\nP\t8\t0f000ffff0ffffff\nN\nS\nS\nM\t0\t4\t6\nM\t3\t6\t4\n;",
-    );
+    )
 }
 
 // Puts a text over the front of another.
@@ -510,46 +521,52 @@ fn fill(text: &mut [u8], letter: u8) {
 }
 
 // A line 1 of 14 bytes, so that each line after it starts at an even place, and lines of one letter up to the text's end.
-fn letter_case(judged: bool, text: &mut [u8], front: &[u8], letter: u8) {
+fn letter_case(
+    rt: &(impl Print + Eprint),
+    judged: bool,
+    text: &mut [u8],
+    front: &[u8],
+    letter: u8,
+) -> io::Result<()> {
     fill(text, letter);
     put(text, front);
-    script_case(judged, text);
+    script_case(rt, judged, text)
 }
 
 // Scripts of 65,536 and 65,537 bytes; 512 marks, and 513, at which a writer stops or carries on; 1,025 operations.
-fn long_cases(judged: bool) {
-    script_case(judged, &[b'\n'; 65536]);
-    script_case(judged, &[b'\n'; 65537]);
+fn long_cases(rt: &(impl Print + Eprint), judged: bool) -> io::Result<()> {
+    script_case(rt, judged, &[b'\n'; 65536])?;
+    script_case(rt, judged, &[b'\n'; 65537])?;
     let mut most = [0u8; 1038];
-    letter_case(judged, &mut most, b"G\t4\t4\t1\t1\ta\ts\n", b'N');
+    letter_case(rt, judged, &mut most, b"G\t4\t4\t1\t1\ta\ts\n", b'N')?;
     let mut more = [0u8; 1040];
-    letter_case(judged, &mut more, b"G\t4\t4\t1\t1\ta\ts\n", b'N');
-    letter_case(judged, &mut more, b"G\t4\t4\t1\t1\ta\tc\n", b'N');
+    letter_case(rt, judged, &mut more, b"G\t4\t4\t1\t1\ta\ts\n", b'N')?;
+    letter_case(rt, judged, &mut more, b"G\t4\t4\t1\t1\ta\tc\n", b'N')?;
     let mut operations = [0u8; 2064];
-    letter_case(judged, &mut operations, b"G\t4\t4\t1\t1\ta\ts\n", b'S');
+    letter_case(rt, judged, &mut operations, b"G\t4\t4\t1\t1\ta\ts\n", b'S')
 }
 
 // Every script, for `judge` or for `sweep`.
-fn all(judged: bool) {
-    worked_cases(judged);
-    empty_cases(judged);
-    unit_cases(judged);
-    again_cases(judged);
-    erase_cases(judged);
-    barrier_cases(judged);
-    range_cases(judged);
-    refused_cases(judged);
-    history_cases(judged);
-    head_cases(judged);
-    geometry_cases(judged);
-    line_cases(judged);
-    field_cases(judged);
-    drawn_cases(judged);
-    more_drawn_cases(judged);
-    long_cases(judged);
+fn all(rt: &(impl Print + Eprint), judged: bool) -> io::Result<()> {
+    worked_cases(rt, judged)?;
+    empty_cases(rt, judged)?;
+    unit_cases(rt, judged)?;
+    again_cases(rt, judged)?;
+    erase_cases(rt, judged)?;
+    barrier_cases(rt, judged)?;
+    range_cases(rt, judged)?;
+    refused_cases(rt, judged)?;
+    history_cases(rt, judged)?;
+    head_cases(rt, judged)?;
+    geometry_cases(rt, judged)?;
+    line_cases(rt, judged)?;
+    field_cases(rt, judged)?;
+    drawn_cases(rt, judged)?;
+    more_drawn_cases(rt, judged)?;
+    long_cases(rt, judged)
 }
 
-fn main() {
-    all(false);
-    all(true);
+fn main(rt: HostRuntime) -> io::Result<()> {
+    all(&rt, false)?;
+    all(&rt, true)
 }

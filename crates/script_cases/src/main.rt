@@ -10,118 +10,109 @@
 ghost use Rattle.std.specs.Prelude.{◌<◌, ◌≤◌, length};
 
 use basics::store_u8;
-use libc::STDOUT_FILENO;
 use script::{Head, ReadScript};
+use std::io;
 
 // A script with a line of every kind: the copies are damaged at each of its places.
 const EVERY_KIND: [u8; 56] =
     *b"G\t16\t8\t4\t2\tr\tc\nB\t7\nP\t12\t00ff9a\nP\t0\t\nE\t8\t16\nS\nN\nM\t3\t10\t2\n";
 
 // A blank and a number.
-fn print(n: u32) {
-    io::write_all(STDOUT_FILENO, b" ");
-    io::print_decimal(STDOUT_FILENO, n as u64);
+fn print(rt: &impl Print, n: u32) -> io::Result<()> {
+    print!(rt; " {n}")
 }
 
-fn print_flag(flag: bool) {
-    if flag {
-        print(1);
-    } else {
-        print(0);
-    }
+fn print_flag(rt: &impl Print, flag: bool) -> io::Result<()> {
+    if flag { print(rt, 1) } else { print(rt, 0) }
 }
 
 // A byte of a text; a tab, an LF and a CR as they are written in a program.
-fn print_byte(byte: u8) {
+fn print_byte(rt: &impl Print, byte: u8) -> io::Result<()> {
     match byte {
-        b'\t' => {
-            io::write_all(STDOUT_FILENO, b"\\t");
-        }
-        b'\n' => {
-            io::write_all(STDOUT_FILENO, b"\\n");
-        }
-        b'\r' => {
-            io::write_all(STDOUT_FILENO, b"\\r");
-        }
-        _ => {
-            io::write_all(STDOUT_FILENO, &[byte]);
-        }
+        b'\t' => rt.write_all(b"\\t"),
+        b'\n' => rt.write_all(b"\\n"),
+        b'\r' => rt.write_all(b"\\r"),
+        _ => rt.write_all(&[byte]),
     }
 }
 
-fn print_text(text: &[u8]) {
+fn print_text(rt: &impl Print, text: &[u8]) -> io::Result<()> {
     for i in 0..text.len() {
-        print_byte(text[i]);
+        print_byte(rt, text[i])?;
     }
+    Ok(())
 }
 
-fn print_numbers(column: &[u32]) {
+fn print_numbers(rt: &impl Print, column: &[u32]) -> io::Result<()> {
     for i in 0..column.len() {
-        print(column[i]);
+        print(rt, column[i])?;
     }
+    Ok(())
 }
 
-fn print_cell(cell: u8) {
-    print(cell as u32);
+fn print_cell(rt: &impl Print, cell: u8) -> io::Result<()> {
+    print(rt, cell as u32)
 }
 
-fn print_bytes(column: &[u8]) {
+fn print_bytes(rt: &impl Print, column: &[u8]) -> io::Result<()> {
     for i in 0..column.len() {
-        print_cell(column[i]);
+        print_cell(rt, column[i])?;
     }
+    Ok(())
 }
 
-fn print_head(head: Head) {
-    print(head.geometry.capacity);
-    print(head.geometry.erase_size);
-    print(head.geometry.program_size);
-    print(head.geometry.read_size);
-    print_flag(head.rejected);
-    print_flag(head.carries_on);
+fn print_head(rt: &impl Print, head: Head) -> io::Result<()> {
+    print(rt, head.geometry.capacity)?;
+    print(rt, head.geometry.erase_size)?;
+    print(rt, head.geometry.program_size)?;
+    print(rt, head.geometry.read_size)?;
+    print_flag(rt, head.rejected)?;
+    print_flag(rt, head.carries_on)
 }
 
-fn print_answer(answer: ReadScript) {
-    io::write_all(STDOUT_FILENO, b" A");
+fn print_answer(rt: &impl Print, answer: ReadScript) -> io::Result<()> {
+    rt.write_all(b" A")?;
     match answer {
         ReadScript::Read { head, calls, bytes } => {
-            print(0);
-            print(0);
-            print_head(head);
-            print(calls);
-            print(bytes);
+            print(rt, 0)?;
+            print(rt, 0)?;
+            print_head(rt, head)?;
+            print(rt, calls)?;
+            print(rt, bytes)
         }
         ReadScript::Refused { number, line } => {
-            print(number);
-            print(line);
+            print(rt, number)?;
+            print(rt, line)
         }
     }
 }
 
 fn print_columns(
+    rt: &impl Print,
     kinds: &[u8],
     firsts: &[u32],
     seconds: &[u32],
     thirds: &[u32],
     starts: &[u32],
     pool: &[u8],
-) {
-    io::write_all(STDOUT_FILENO, b" K");
-    print_bytes(kinds);
-    io::write_all(STDOUT_FILENO, b" F");
-    print_numbers(firsts);
-    io::write_all(STDOUT_FILENO, b" S");
-    print_numbers(seconds);
-    io::write_all(STDOUT_FILENO, b" T");
-    print_numbers(thirds);
-    io::write_all(STDOUT_FILENO, b" B");
-    print_numbers(starts);
-    io::write_all(STDOUT_FILENO, b" P");
-    print_bytes(pool);
-    io::write_all(STDOUT_FILENO, b"\n");
+) -> io::Result<()> {
+    rt.write_all(b" K")?;
+    print_bytes(rt, kinds)?;
+    rt.write_all(b" F")?;
+    print_numbers(rt, firsts)?;
+    rt.write_all(b" S")?;
+    print_numbers(rt, seconds)?;
+    rt.write_all(b" T")?;
+    print_numbers(rt, thirds)?;
+    rt.write_all(b" B")?;
+    print_numbers(rt, starts)?;
+    rt.write_all(b" P")?;
+    print_bytes(rt, pool)?;
+    rt.write_all(b"\n")
 }
 
 // A text read into columns of eight cells, one of which the caller lends, and a pool of eight.
-fn read_case(text: &[u8], thirds: &mut [u32]) {
+fn read_case(rt: &impl Print, text: &[u8], thirds: &mut [u32]) -> io::Result<()> {
     let mut kinds = [9u8; 8];
     let mut firsts = [9u32; 8];
     let mut seconds = [9u32; 8];
@@ -136,27 +127,27 @@ fn read_case(text: &[u8], thirds: &mut [u32]) {
         &mut starts,
         &mut pool,
     );
-    print_text(text);
-    print_answer(answer);
-    print_columns(&kinds, &firsts, &seconds, thirds, &starts, &pool);
+    print_text(rt, text)?;
+    print_answer(rt, answer)?;
+    print_columns(rt, &kinds, &firsts, &seconds, thirds, &starts, &pool)
 }
 
-fn script_case(text: &[u8]) {
+fn script_case(rt: &impl Print, text: &[u8]) -> io::Result<()> {
     let mut thirds = [9u32; 8];
-    read_case(text, &mut thirds);
+    read_case(rt, text, &mut thirds)
 }
 
 // With a column that is shorter than the others.
-fn uneven_case(text: &[u8]) {
+fn uneven_case(rt: &impl Print, text: &[u8]) -> io::Result<()> {
     let mut thirds = [9u32; 7];
-    read_case(text, &mut thirds);
+    read_case(rt, text, &mut thirds)
 }
 
 // A text too long to show: what counting answers.
-fn count_case(text: &[u8]) {
-    io::print_decimal(STDOUT_FILENO, text.len() as u64);
-    print_answer(script::count_calls(text));
-    io::write_all(STDOUT_FILENO, b"\n");
+fn count_case(rt: &impl Print, text: &[u8]) -> io::Result<()> {
+    print!(rt; "{}", text.len())?;
+    print_answer(rt, script::count_calls(text))?;
+    rt.write_all(b"\n")
 }
 
 // Where the text that starts at a place ends.
@@ -175,28 +166,31 @@ fn end_of(texts: &[u8], from: usize) -> usize
 }
 
 // Texts, each ended by a semicolon.
-fn text_cases(texts: &[u8]) {
+fn text_cases(rt: &impl Print, texts: &[u8]) -> io::Result<()> {
     let mut at = 0;
     while at < texts.len() {
         let end = end_of(texts, at);
-        script_case(&texts[at..end]);
+        script_case(rt, &texts[at..end])?;
         at = end + 1;
     }
+    Ok(())
 }
 
 // Document 01's example, a script without calls, and the largest numbers.
-fn good_cases() {
+fn good_cases(rt: &impl Print) -> io::Result<()> {
     text_cases(
+        rt,
         b"G\t4\t4\t1\t1\ta\ts\nB\t7\nP\t0\t00\nS\nN\n;\
         G\t16384\t16384\t16384\t16384\tr\ts\n;\
         G\t4\t4\t1\t1\ta\tc\nB\t0\nB\t4294967295\nM\t4294967295\t4294967295\t4294967295\n;\
         G\t4\t4\t1\t1\ta\tc\nE\t4294967295\t4294967295\nE\t0\t0\nP\t4294967295\t0123456789abcdef\n;",
-    );
+    )
 }
 
 // Line 1: absent, of another kind, of too few or too many fields; 1 to 3 and 10, after 8 and before a later line's 8.
-fn head_cases() {
+fn head_cases(rt: &impl Print) -> io::Result<()> {
     text_cases(
+        rt,
         b";\
         \n;\
         S\n;\
@@ -217,12 +211,13 @@ fn head_cases() {
         G\t0\t3\t4\t4\ta\tx\n;\
         G\t0\t3\t4\t4\ta\ts\nx\n;\
         G\t16388\t4\t4\t4\ta\ts\nx\n;",
-    );
+    )
 }
 
 // A kind letter that is none, a line 1 elsewhere, an empty line, blanks and CRs, fields too few and too many.
-fn line_cases() {
+fn line_cases(rt: &impl Print) -> io::Result<()> {
     text_cases(
+        rt,
         b"G\t4\t4\t1\t1\ta\ts\nX\n;\
         G\t4\t4\t1\t1\ta\ts\ns\n;\
         G\t4\t4\t1\t1\ta\ts\nS\nG\t4\t4\t1\t1\ta\ts\n;\
@@ -242,12 +237,13 @@ fn line_cases() {
         G\t4\t4\t1\t1\ta\ts\nP\t1\t00\t00\n;\
         G\t4\t4\t1\t1\ta\ts\nB\t1\nS\nN\nB\t2\nS\nN\nB\t3\nS\nN;\
         G\t4\t4\t1\t1\ta\ts\nN\nN\nN\nN\nN\nN\nN\nN\nN\nN\n;",
-    );
+    )
 }
 
 // Numbers and bytes that are none.
-fn field_cases() {
+fn field_cases(rt: &impl Print) -> io::Result<()> {
     text_cases(
+        rt,
         b"G\t4\t4\t1\t1\ta\ts\nB\t\n;\
         G\t4\t4\t1\t1\ta\ts\nB\t00\n;\
         G\t4\t4\t1\t1\ta\ts\nB\t07\n;\
@@ -268,22 +264,23 @@ fn field_cases() {
         G\t4\t4\t1\t1\ta\ts\nP\t0\t:0\n;\
         G\t4\t4\t1\t1\ta\ts\nP\t0\t`0\n;\
         G\t4\t4\t1\t1\ta\ts\nP\t0\t00 \n;",
-    );
+    )
 }
 
 // As many calls and bytes as there are cells; one more, 13; columns of unequal length, 12; both after the script's own
 // numbers.
-fn room_cases() {
+fn room_cases(rt: &impl Print) -> io::Result<()> {
     text_cases(
+        rt,
         b"G\t4\t4\t1\t1\ta\ts\nN\nN\nN\nN\nN\nN\nN\nS\n;\
         G\t4\t4\t1\t1\ta\ts\nN\nN\nN\nN\nN\nN\nN\nS\nS\n;\
         G\t4\t4\t1\t1\ta\ts\nP\t0\t0001020304050607\n;\
         G\t4\t4\t1\t1\ta\ts\nP\t0\t0001020304050607\nP\t1\t08\n;",
-    );
-    uneven_case(b"G\t4\t4\t1\t1\ta\ts\nS\n");
-    uneven_case(b"G\t4\t4\t1\t1\ta\ts\nN\nN\nN\nN\nN\nN\nN\nS\nS\n");
-    uneven_case(b"G\t4\t4\t1\t1\ta\ts\nx\n");
-    uneven_case(b"G\t16385\t1\t1\t1\ta\ts\n");
+    )?;
+    uneven_case(rt, b"G\t4\t4\t1\t1\ta\ts\nS\n")?;
+    uneven_case(rt, b"G\t4\t4\t1\t1\ta\ts\nN\nN\nN\nN\nN\nN\nN\nS\nS\n")?;
+    uneven_case(rt, b"G\t4\t4\t1\t1\ta\ts\nx\n")?;
+    uneven_case(rt, b"G\t16385\t1\t1\t1\ta\ts\n")
 }
 
 // The place that stands at `i` where another place is left out.
@@ -298,42 +295,43 @@ fn past(i: usize, place: usize) -> usize
 }
 
 // The script without the byte at a place.
-fn left_out_case(place: usize) {
+fn left_out_case(rt: &impl Print, place: usize) -> io::Result<()> {
     let mut less = [0u8; 55];
     for i in 0..55 {
         less[i] = EVERY_KIND[past(i, place)];
     }
-    script_case(&less);
+    script_case(rt, &less)
 }
 
 // The script up to a place.
-fn cut_case(text: &[u8], place: usize) {
+fn cut_case(rt: &impl Print, text: &[u8], place: usize) -> io::Result<()> {
     if text.len() < place {
-        return;
+        return Ok(());
     }
-    script_case(&text[..place]);
+    script_case(rt, &text[..place])
 }
 
 // The copies that are damaged at a place: the text cut there, another byte in its place, or the byte left out.
-fn damaged_cases(place: usize)
+fn damaged_cases(rt: &impl Print, place: usize) -> io::Result<()>
     requires { place < 56 }
 {
-    cut_case(&EVERY_KIND, place);
+    cut_case(rt, &EVERY_KIND, place)?;
     let mut copy = EVERY_KIND;
     copy[place] = b'\t';
-    script_case(&copy);
+    script_case(rt, &copy)?;
     copy[place] = b'\n';
-    script_case(&copy);
+    script_case(rt, &copy)?;
     copy[place] = b'0';
-    script_case(&copy);
-    left_out_case(place);
+    script_case(rt, &copy)?;
+    left_out_case(rt, place)
 }
 
-fn all_damaged() {
-    script_case(&EVERY_KIND);
+fn all_damaged(rt: &impl Print) -> io::Result<()> {
+    script_case(rt, &EVERY_KIND)?;
     for place in 0..56 {
-        damaged_cases(place);
+        damaged_cases(rt, place)?;
     }
+    Ok(())
 }
 
 // Puts a text over the front of another.
@@ -344,25 +342,25 @@ fn put(text: &mut [u8], front: &[u8]) {
 }
 
 // Programs of 4,096 and 4,097 bytes, texts of 65,536 and 65,537.
-fn limit_cases() {
+fn limit_cases(rt: &impl Print) -> io::Result<()> {
     let mut most = [b'0'; 8211];
     put(&mut most, b"G\t4\t4\t1\t1\ta\ts\nP\t0\t");
     most[8210] = b'\n';
-    count_case(&most);
+    count_case(rt, &most)?;
     let mut more = [b'0'; 8213];
     put(&mut more, b"G\t4\t4\t1\t1\ta\ts\nP\t0\t");
     more[8212] = b'\n';
-    count_case(&more);
-    count_case(&[b'\n'; 65536]);
-    count_case(&[b'\n'; 65537]);
+    count_case(rt, &more)?;
+    count_case(rt, &[b'\n'; 65536])?;
+    count_case(rt, &[b'\n'; 65537])
 }
 
-fn main() {
-    good_cases();
-    head_cases();
-    line_cases();
-    field_cases();
-    room_cases();
-    all_damaged();
-    limit_cases();
+fn main(rt: HostRuntime) -> io::Result<()> {
+    good_cases(&rt)?;
+    head_cases(&rt)?;
+    line_cases(&rt)?;
+    field_cases(&rt)?;
+    room_cases(&rt)?;
+    all_damaged(&rt)?;
+    limit_cases(&rt)
 }

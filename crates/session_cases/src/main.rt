@@ -14,8 +14,8 @@ ghost use Rattle.std.specs.Prelude.{◌<◌};
 use device::OneWayBits;
 use inject::{Injection, Interruption, Progress};
 use ledger::Derived;
-use libc::STDOUT_FILENO;
 use session::{Armed, Counters, Started, Told};
+use std::io;
 use storage::Geometry;
 
 // The progresses of the injection: a kind (0 none, 1 bytes, 2 whole) and a count, one for each list.
@@ -53,13 +53,12 @@ const MARKED_STARTS: [u32; 10] = [0, 0, 0, 0, 4, 0, 0, 0, 0, 0];
 const MARKED_POOL: [u8; 8] = [0, 0, 255, 255, 0, 0, 0, 0];
 
 // A number with a blank before it.
-fn print(n: u32) {
-    io::write_all(STDOUT_FILENO, b" ");
-    io::print_decimal(STDOUT_FILENO, n as u64);
+fn print(rt: &impl Print, n: u32) -> io::Result<()> {
+    print!(rt; " {n}")
 }
 
-fn print_byte(byte: u8) {
-    print(byte as u32);
+fn print_byte(rt: &impl Print, byte: u8) -> io::Result<()> {
+    print(rt, byte as u32)
 }
 
 fn progress_of(kind: u32, count: u32) -> Progress {
@@ -99,40 +98,49 @@ fn told_of(op: usize, progress: Progress, interruption: Interruption) -> Told {
 }
 
 // As many answers as rows were run, of up to ten.
-fn print_answers(answers: &[u32; 10], done: usize) {
+fn print_answers(rt: &impl Print, answers: &[u32; 10], done: usize) -> io::Result<()> {
     for place in 0..10 {
         if place < done {
-            print(answers[place]);
+            print(rt, answers[place])?;
         }
     }
+    Ok(())
 }
 
-fn print_media(media: &[u8; 16]) {
+fn print_media(rt: &impl Print, media: &[u8; 16]) -> io::Result<()> {
     for place in 0..16 {
-        print_byte(media[place]);
+        print_byte(rt, media[place])?;
     }
+    Ok(())
 }
 
 // How many operations are recorded, and the media.
-fn print_end(counters: Counters, media: &[u8; 16]) {
-    io::write_all(STDOUT_FILENO, b" ");
-    io::print_decimal(STDOUT_FILENO, counters.operations as u64);
-    print_media(media);
+fn print_end(rt: &impl Print, counters: Counters, media: &[u8; 16]) -> io::Result<()> {
+    print!(rt; " {}", counters.operations)?;
+    print_media(rt, media)
 }
 
 // As many entries as there are, of up to sixteen.
-fn print_entries(ids: &[u32; 16], states: &[u8; 16], torn: &[u8; 16], entries: usize) {
+fn print_entries(
+    rt: &impl Print,
+    ids: &[u32; 16],
+    states: &[u8; 16],
+    torn: &[u8; 16],
+    entries: usize,
+) -> io::Result<()> {
     for place in 0..16 {
         if place < entries {
-            print(ids[place]);
-            print_byte(states[place]);
-            print_byte(torn[place]);
+            print(rt, ids[place])?;
+            print_byte(rt, states[place])?;
+            print_byte(rt, torn[place])?;
         }
     }
+    Ok(())
 }
 
 // The ledger's entries. What refuses a ledger would be its last number.
 fn print_ledger(
+    rt: &impl Print,
     told: Told,
     counters: Counters,
     media: &[u8; 16],
@@ -146,7 +154,7 @@ fn print_ledger(
     marks: &[u8; 512],
     named: &[u32; 512],
     places: &[u64; 512],
-) {
+) -> io::Result<()> {
     let mut ids = [0u32; 16];
     let mut states = [0u8; 16];
     let mut torn = [0u8; 16];
@@ -169,8 +177,8 @@ fn print_ledger(
         &mut torn,
     );
     match derived {
-        Derived::Entries(entries) => print_entries(&ids, &states, &torn, entries),
-        Derived::NotDerived(number) => print(number),
+        Derived::Entries(entries) => print_entries(rt, &ids, &states, &torn, entries),
+        Derived::NotDerived(number) => print(rt, number),
     }
 }
 
@@ -196,6 +204,7 @@ fn start(told: Told, media: &mut [u8; 16]) -> Started {
 
 // The rows in turn, each with its answer, and what they left.
 fn run(
+    rt: &impl Print,
     told: Told,
     fresh: Counters,
     marked: bool,
@@ -206,7 +215,7 @@ fn run(
     starts: &[u32],
     pool: &[u8],
     media: &mut [u8; 16],
-) {
+) -> io::Result<()> {
     let mut answers = [0u32; 10];
     let mut copy = [0u8; 16];
     let mut ops = [0u8; 1024];
@@ -242,27 +251,28 @@ fn run(
         &mut named,
         &mut places,
     );
-    print_answers(&answers, ended.done);
+    print_answers(rt, &answers, ended.done)?;
     let counters = ended.counters;
     if marked {
         print_ledger(
-            told, counters, media, &copy, &ops, &spans, &sizes, &digests, &changed, &answered,
+            rt, told, counters, media, &copy, &ops, &spans, &sizes, &digests, &changed, &answered,
             &marks, &named, &places,
-        );
+        )
     } else {
-        print_end(counters, media);
+        print_end(rt, counters, media)
     }
 }
 
 // What a line has after its injection. A refused start would be its number alone.
-fn one_session(told: Told, marked: bool) {
+fn one_session(rt: &impl Print, told: Told, marked: bool) -> io::Result<()> {
     let mut media = [0u8; 16];
     let begun = start(told, &mut media);
     match begun {
-        Started::NotStarted(number) => print(number),
+        Started::NotStarted(number) => print(rt, number),
         Started::Fresh(fresh) => {
             if marked {
                 run(
+                    rt,
                     told,
                     fresh,
                     true,
@@ -273,12 +283,12 @@ fn one_session(told: Told, marked: bool) {
                     &MARKED_STARTS,
                     &MARKED_POOL,
                     &mut media,
-                );
+                )
             } else {
                 run(
-                    told, fresh, false, &KINDS, &FIRSTS, &SECONDS, &THIRDS, &STARTS, &POOL,
+                    rt, told, fresh, false, &KINDS, &FIRSTS, &SECONDS, &THIRDS, &STARTS, &POOL,
                     &mut media,
-                );
+                )
             }
         }
     }
@@ -292,39 +302,42 @@ fn count_of(place: usize, marked: bool) -> u32 {
 }
 
 // One line: the injection, each call's answer, and what the calls left.
-fn one_case(place: usize, marked: bool)
+fn one_case(rt: &impl Print, place: usize, marked: bool) -> io::Result<()>
     requires { place < 126 }
 {
     let op = place / 18;
     let cause = place / 6 % 3;
     let kind = PROGRESSES[place % 6];
     let count = count_of(place, marked);
-    io::print_decimal(STDOUT_FILENO, op as u64);
-    print(cause as u32);
-    print(kind);
-    print(count);
+    print!(rt; "{op}")?;
+    print(rt, cause as u32)?;
+    print(rt, kind)?;
+    print(rt, count)?;
     one_session(
+        rt,
         told_of(op, progress_of(kind, count), interruption_of(cause)),
         marked,
-    );
-    io::write_all(STDOUT_FILENO, b"\n");
+    )?;
+    rt.write_all(b"\n")
 }
 
 // Five operations, and one past the last.
-fn session_lines() {
+fn session_lines(rt: &impl Print) -> io::Result<()> {
     for place in 0..108 {
-        one_case(place, false);
+        one_case(rt, place, false)?;
     }
+    Ok(())
 }
 
 // Six operations, and one past the last.
-fn ledger_lines() {
+fn ledger_lines(rt: &impl Print) -> io::Result<()> {
     for place in 0..126 {
-        one_case(place, true);
+        one_case(rt, place, true)?;
     }
+    Ok(())
 }
 
-fn main() {
-    session_lines();
-    ledger_lines();
+fn main(rt: HostRuntime) -> io::Result<()> {
+    session_lines(&rt)?;
+    ledger_lines(&rt)
 }

@@ -6,7 +6,7 @@
 
 ghost use Rattle.std.specs.Prelude.{◌<◌};
 
-use libc::STDOUT_FILENO;
+use std::io;
 use storage::{EraseBlocks, Geometry, NewGeometry};
 
 const CAPACITIES: [u32; 8] = [0, 1, 16, 20, 48, 2147483648, 4294967280, 4294967295];
@@ -18,29 +18,29 @@ const DEVICES: [u32; 16] = [16, 8, 4, 4, 48, 16, 4, 1, 4294967280, 16, 8, 2, 20,
 const SPANS: [u32; 11] = [0, 1, 2, 3, 4, 8, 12, 16, 48, 4294967280, 4294967295];
 
 // A number and what stands after it.
-fn print(n: u32, after: &[u8; 1]) {
-    io::print_decimal(STDOUT_FILENO, n as u64);
-    io::write_all(STDOUT_FILENO, after);
+fn print(rt: &impl Print, n: u32, after: &[u8; 1]) -> io::Result<()> {
+    print!(rt; "{n}")?;
+    rt.write_all(after)
 }
 
-fn print_units(geometry: Geometry) {
-    print(geometry.capacity, b" ");
-    print(geometry.erase_size, b" ");
-    print(geometry.program_size, b" ");
-    print(geometry.read_size, b" ");
+fn print_units(rt: &impl Print, geometry: Geometry) -> io::Result<()> {
+    print(rt, geometry.capacity, b" ")?;
+    print(rt, geometry.erase_size, b" ")?;
+    print(rt, geometry.program_size, b" ")?;
+    print(rt, geometry.read_size, b" ")
 }
 
 // How many erase blocks a described geometry has.
-fn print_blocks(geometry: Geometry) {
+fn print_blocks(rt: &impl Print, geometry: Geometry) -> io::Result<()> {
     let counted = geometry.erase_blocks();
     match counted {
-        EraseBlocks::Blocks(count) => print(count, b"\n"),
-        EraseBlocks::NoBlocks(error) => print(error.number(), b"\n"),
+        EraseBlocks::Blocks(count) => print(rt, count, b"\n"),
+        EraseBlocks::NoBlocks(error) => print(rt, error.number(), b"\n"),
     }
 }
 
 // Four units, what `new` refuses them with, and the number of erase blocks, 0 where they are refused.
-fn geometry_case(place: usize)
+fn geometry_case(rt: &impl Print, place: usize) -> io::Result<()>
     requires { place < 1728 }
 {
     let geometry = Geometry {
@@ -49,7 +49,7 @@ fn geometry_case(place: usize)
         program_size: UNITS[place / 6 % 6],
         read_size: UNITS[place % 6],
     };
-    print_units(geometry);
+    print_units(rt, geometry)?;
     let made = Geometry::new(
         geometry.capacity,
         geometry.erase_size,
@@ -58,18 +58,18 @@ fn geometry_case(place: usize)
     );
     match made {
         NewGeometry::Described(described) => {
-            print(0, b" ");
-            print_blocks(described);
+            print(rt, 0, b" ")?;
+            print_blocks(rt, described)
         }
         NewGeometry::NotDescribed(error) => {
-            print(error.number(), b" ");
-            print(0, b"\n");
+            print(rt, error.number(), b" ")?;
+            print(rt, 0, b"\n")
         }
     }
 }
 
 // Four units, a span, and what refuses it as a read, as a program and as an erase.
-fn span_case(place: usize)
+fn span_case(rt: &impl Print, place: usize) -> io::Result<()>
     requires { place < 484 }
 {
     let device = place / 121 * 4;
@@ -81,27 +81,29 @@ fn span_case(place: usize)
     };
     let offset = SPANS[place / 11 % 11];
     let len = SPANS[place % 11];
-    print_units(geometry);
-    print(offset, b" ");
-    print(len, b" ");
-    print(geometry.validate_read(offset, len).refusal(), b" ");
-    print(geometry.validate_program(offset, len).refusal(), b" ");
-    print(geometry.validate_erase(offset, len).refusal(), b"\n");
+    print_units(rt, geometry)?;
+    print(rt, offset, b" ")?;
+    print(rt, len, b" ")?;
+    print(rt, geometry.validate_read(offset, len).refusal(), b" ")?;
+    print(rt, geometry.validate_program(offset, len).refusal(), b" ")?;
+    print(rt, geometry.validate_erase(offset, len).refusal(), b"\n")
 }
 
-fn geometry_cases() {
+fn geometry_cases(rt: &impl Print) -> io::Result<()> {
     for place in 0..1728 {
-        geometry_case(place);
+        geometry_case(rt, place)?;
     }
+    Ok(())
 }
 
-fn span_cases() {
+fn span_cases(rt: &impl Print) -> io::Result<()> {
     for place in 0..484 {
-        span_case(place);
+        span_case(rt, place)?;
     }
+    Ok(())
 }
 
-fn main() {
-    geometry_cases();
-    span_cases();
+fn main(rt: HostRuntime) -> io::Result<()> {
+    geometry_cases(&rt)?;
+    span_cases(&rt)
 }
