@@ -1,24 +1,24 @@
 -- Document 01: "its place among the runs (0 is the fault-free run, then the crash points in order)". Definitions only; assumes nothing.
-use Rattle.std.specs.Prelude.{List, ℕ, zero, suc}
+use Rattle.std.specs.Prelude.{List, ℕ, zero, suc, Result, Ok, Err}
 use Rattle.storage.specs.declared.Geometry.{Geometry}
-use Rattle.inject.specs.declared.Counted.{Counted}
-use Rattle.inject.specs.declared.Counted.TheVariants.{Points, NotCounted}
-use Rattle.inject.specs.declared.Found.{Found}
-use Rattle.inject.specs.declared.Found.TheVariants.{Point, NotFound}
+use Rattle.inject.specs.declared.Injection.{Injection}
 use Rattle.inject.specs.Answers.{counted, found}
-use Rattle.session.specs.declared.Armed.TheVariants.{Nothing, At}
-use Rattle.armed_runs.specs.declared.Placed.{Placed}
-use Rattle.armed_runs.specs.declared.Placed.TheVariants.{Run, NoRun}
+use Rattle.std.specs.Prelude.{None as Nothing, Some as At}
+use Rattle.session.specs.Armed.{Armed}
+
+-- what is armed, or the number that refuses the place
+abbrev pub Placed : Type 0
+Placed = Result Armed ℕ
 
 -- a crash point is armed; a place that is none's is refused
-abbrev pub armed_by : Found → Placed
-armed_by (Point injection) = Run (At injection)
-armed_by (NotFound number) = NoRun number
+abbrev pub armed_by : Result Injection ℕ → Placed
+armed_by (Ok injection) = Ok (At injection)
+armed_by (Err number) = Err number
 
 -- nothing is armed in the fault-free run; operations that are none are refused there too
-abbrev pub free_by : Counted → Placed
-free_by (Points points) = Run Nothing
-free_by (NotCounted number) = NoRun number
+abbrev pub free_by : Result ℕ ℕ → Placed
+free_by (Ok points) = Ok Nothing
+free_by (Err number) = Err number
 
 -- what is armed in the run at a place
 unfoldable pub placed_at : (place : ℕ) → Geometry → (kinds offsets lens : List ℕ) → Placed

@@ -3,21 +3,17 @@
 #![tactic(auto)]
 
 ghost use Rattle.std.specs.Prelude.{◌≡◌};
+ghost use Rattle.basics.specs.Replies.{numbered};
+ghost use Rattle.refusals.specs.Numbers.{number_of};
 ghost use Rattle.sweeps.specs.Sweep.{rule_of, told_by};
-ghost use Rattle.armed_runs.specs.Places.{free_by, placed_at};
+ghost use Rattle.armed_runs.specs.Places.{placed_at};
 
 use device::OneWayBits;
-use inject::{Counted, Found};
+use inject::{Injection, OpsRef};
+use refusals::Refusal;
 use script::Head;
-use session::{Armed, Told};
+use session::Told;
 use storage::Geometry;
-
-// What is armed in the run at a place; or the number that refuses the place.
-#[derive(Clone, Copy)]
-pub enum Placed {
-    Run(Armed),
-    NoRun(u32),
-}
 
 // ---- what a session is told
 
@@ -32,43 +28,26 @@ fn rule_of(rejected: bool) -> OneWayBits
 }
 
 // Line 1 and at most one injection.
-pub fn told_by(head: Head, armed: Armed) -> Told
+pub fn told_by(head: Head, armed: Option<Injection>) -> Told
     ensures { result ≡ told_by head armed }
 {
-    let geometry = head.geometry;
-    let bits = rule_of(head.rejected);
-    session::told_with(geometry, bits, armed)
+    session::told_with(head.geometry, rule_of(head.rejected), armed)
 }
 
 // ---- the runs in order
-
-// What is armed in run 0: nothing, where the operations were counted.
-fn free_run(counted: Counted) -> Placed
-    ensures { result ≡ free_by counted }
-{
-    match counted {
-        Counted::Points(_) => Placed::Run(Armed::Nothing),
-        Counted::NotCounted(number) => Placed::NoRun(number),
-    }
-}
 
 // What is armed in the run at a place: nothing in run 0, then the crash points of the operations, in order.
 pub fn point_at(
     place: u64,
     geometry: Geometry,
-    kinds: &[u8],
-    offsets: &[u32],
-    lens: &[u32],
-) -> Placed
-    ensures { result ≡ placed_at place geometry kinds.now offsets.now lens.now }
+    ops: &OpsRef<'_>,
+) -> Result<Option<Injection>, Refusal>
+    ensures { numbered number_of result ≡ placed_at place geometry ops.now.kinds.now ops.now.offsets.now ops.now.lens.now }
 {
     if place == 0 {
-        let counted = inject::injection_count(kinds, offsets, lens, geometry);
-        return free_run(counted);
+        ops.injection_count(geometry)?;
+        return Ok(None);
     }
-    let found = inject::injection_at(kinds, offsets, lens, geometry, place - 1);
-    match found {
-        Found::Point(injection) => Placed::Run(Armed::At(injection)),
-        Found::NotFound(number) => Placed::NoRun(number),
-    }
+    let injection = ops.injection_at(geometry, place - 1)?;
+    Ok(Some(injection))
 }

@@ -1,9 +1,32 @@
-// What every layer would else write again: which of two tests refuses, the lower of two numbers, and a store into a lent column
-// that no index can make go wrong. The definitions and laws that the other crates cite are in specs/ and proofs/.
+// What every layer would else write again: an error's number, which of two tests refuses, the lower of two numbers, and a store into
+// a lent column that no index can make go wrong. The definitions and laws that the other crates cite are in specs/ and proofs/.
 #![tactic(auto)]
 
-ghost use Rattle.std.specs.Prelude.{◌≡◌, [], ◌∷◌, ◌≤◌, min, set};
+ghost use Rattle.std.specs.Prelude.{◌≡◌, ℕ, [], ◌∷◌, ◌≤◌, min, set};
 ghost use Rattle.basics.specs.Tests.{first_of};
+ghost use Rattle.basics.specs.Replies.{number_in};
+
+// An error that document 01 numbers.
+pub trait Numbered {
+    ghost number: { Self → ℕ };
+
+    // Document 01's number of it.
+    fn number(self) -> u32
+        ensures { result ≡ number self };
+
+    // 0 is no error's: it says that nothing is refused.
+    ghost nonzero: { (error : Self) → number error ≡ 0 → ⊥ };
+}
+
+// The number of an answer: 0 where nothing is refused, else the error's.
+pub fn number_in<T: Drop, E: Numbered>(answer: Result<T, E>) -> u32
+    ensures { result ≡ number_in E.number answer }
+{
+    match answer {
+        Ok(_) => 0,
+        Err(error) => error.number(),
+    }
+}
 
 // The number of the first test that refuses, where a test that does not gives 0.
 pub fn first_of(number: u32, next: u32) -> u32
@@ -16,32 +39,14 @@ pub fn first_of(number: u32, next: u32) -> u32
 pub fn lower(a: usize, b: usize) -> usize
     ensures { (result ≡ min a b) × (result ≤ a) × (result ≤ b) }
 {
-    if a < b { a } else { b }
+    a.min(b)
 }
 
-// Stores `byte` at `at` in a column of bytes. Past the column's end nothing is stored, and nothing changes.
-pub fn store_u8(bytes: &mut [u8], at: usize, byte: u8)
-    ensures { bytes.new ≡ set bytes.old at byte }
+// Stores a value at a place in a column. Past the column's end nothing is stored, and nothing changes.
+pub fn store<T: Copy>(column: &mut [T], at: usize, value: T)
+    ensures { column.new ≡ set column.old at value }
 {
-    if at < bytes.len() {
-        bytes[at] = byte;
-    }
-}
-
-// Stores `word` at `at` in a column of u32. Past the column's end nothing is stored, and nothing changes.
-pub fn store_u32(words: &mut [u32], at: usize, word: u32)
-    ensures { words.new ≡ set words.old at word }
-{
-    if at < words.len() {
-        words[at] = word;
-    }
-}
-
-// Stores `long` at `at` in a column of u64. Past the column's end nothing is stored, and nothing changes.
-pub fn store_u64(longs: &mut [u64], at: usize, long: u64)
-    ensures { longs.new ≡ set longs.old at long }
-{
-    if at < longs.len() {
-        longs[at] = long;
+    if at < column.len() {
+        column[at] = value;
     }
 }

@@ -1,20 +1,21 @@
 -- Some pair of two lists stands as f says.
---     any-more, any-yes, any-no    a loop over the pairs: what has been passed, one pair more
---     any-all, any-found           all have been passed
+--     any-more, any-all            a loop over the pairs: what has been passed, one pair more, and all of them
 --     any_append, any_same         lists that are put together; no element differs from itself
---     any_none                     no pair differs: the lists are the same
---     pair-block, fill-block       a search block by block; `found` and `passed` take its one step apart
---     pair-rest, fill-rest         the last block
+--     any_none, differing          no pair differs: the lists are the same; some does: so do the lists, as `!=` of two slices tells
+--     pair-blocks, written-blocks  a search by blocks and behind them; `found` and `passed` take its one step apart
 -- Assumes nothing.
 use mathlib.Core.Path.{◌≡◌, refl, sym, ap, ap₂, ◌∙◌}
-use mathlib.Core.Bool.{Bool, true, false, ◌||◌, or-false, or-true, or_assoc}
+use mathlib.Core.Bool.{Bool, true, false, not, ◌&&◌, ◌||◌, or-false, or_assoc}
 use mathlib.Core.List.{List, [], ◌∷◌, ◌++◌}
-use Prim.Native.Nat.{ℕ, zero, suc, ◌+◌, ◌-◌, ◌≤◌, ◌<◌}
-use native.Mathlib.Nat.{not-suc-le-zero, le_of_suc-le-suc, suc-ne-zero, suc_inj}
+use Prim.Native.Nat.{ℕ, zero, suc, ◌+◌, ◌*◌, ◌≤◌, ◌<◌}
+use native.Mathlib.Nat.{not-suc-le-zero, le_of_suc-le-suc, suc-ne-zero, suc_inj, zero-mul}
 use native.Mathlib.Numerals.{add-one}
 use native.Mathlib.Omega.{arith}
+use Rattle.std.specs.List.{list_any, zip}
+use Rattle.std.specs.Simd.{first_chunks}
 use lib.Dec.{eqb}
-use lib.ListN.{length, take, drop, get_or, replicate, length-take, length-drop}
+use lib.ListN.{length, take, drop, get_or, replicate}
+use lib.Pointwise.{pointwise}
 use lib.Seq.{take_all, drop-drop}
 use borrow.Author.Tests.{eq-eqb, eqb-true, not-false}
 use Rattle.device.specs.Media.{ff, any_pair, unequal}
@@ -36,13 +37,6 @@ module _ (f : ℕ → ℕ → Bool) where
     pub any-more : i < length xs → i < length ys
         → any_pair f (take (i + 1) xs) (take (i + 1) ys) ≡ (any_pair f (take i xs) (take i ys) || f (get_or xs i 0) (get_or ys i 0))
     any-more h k = rw (add-one i) (any-suc xs ys i h k)
-
-    pub any-yes : i < length xs → i < length ys → f (get_or xs i 0) (get_or ys i 0) ≡ true → any_pair f (take (i + 1) xs) (take (i + 1) ys) ≡ true
-    any-yes h k e = any-more h k ∙ rw e (or-true (any_pair f (take i xs) (take i ys)))
-
-    pub any-no : i < length xs → i < length ys → f (get_or xs i 0) (get_or ys i 0) ≡ false
-        → any_pair f (take (i + 1) xs) (take (i + 1) ys) ≡ any_pair f (take i xs) (take i ys)
-    any-no h k e = any-more h k ∙ rw e (or-false (any_pair f (take i xs) (take i ys)))
 
     pub any-all : length xs ≤ i → length ys ≤ i → any_pair f (take i xs) (take i ys) ≡ any_pair f xs ys
     any-all h k = rw (take_all i xs h, take_all i ys k)
@@ -94,6 +88,18 @@ any_none (x ∷ xs) (y ∷ ys) l e =
     ap₂ (λ (z : ℕ) (zs : List ℕ). z ∷ zs) (eqb-true x y (not-false (eqb x y) (false_left (unequal x y) (any_pair unequal xs ys) e)))
     (any_none xs ys (suc_inj l) (false_right (unequal x y) (any_pair unequal xs ys) e))
 
+-- some pair differs exactly if the lists do, which is what `!=` of two slices answers
+pub differing : (xs ys : List ℕ) → length xs ≡ length ys → not (pointwise eqb xs ys) ≡ any_pair unequal xs ys
+unfolding any_pair
+differing [] [] l = refl
+differing [] (y ∷ ys) l = absurd (suc-ne-zero (length ys) (sym l))
+differing (x ∷ xs) [] l = absurd (suc-ne-zero (length xs) l)
+differing (x ∷ xs) (y ∷ ys) l = not_and (eqb x y) (pointwise eqb xs ys) ∙ ap (λ (b : Bool). unequal x y || b) (differing xs ys (suc_inj l))
+  where
+    not_and : (a b : Bool) → not (a && b) ≡ (not a || not b)
+    not_and true b = refl
+    not_and false b = refl
+
 -- ---- a search block by block
 
 -- a block in which it is found
@@ -104,21 +110,16 @@ found whole block rest e t = rw t at e
 pub passed : (whole block rest : Bool) → whole ≡ (block || rest) → block ≡ false → whole ≡ rest
 passed whole block rest e t = rw t at e
 
--- two lists of one length have blocks of one length
-pub block-lengths : (xs ys : List ℕ) (i n m : ℕ) → length xs ≡ length ys → n ≡ m → length (take n (drop i xs)) ≡ length (take m (drop i ys))
-block-lengths xs ys i n m e f = simp (length-take, length-drop, e, f)
-
--- the block of k from i on, as the code lends it, and what is left behind it
-pub pair-block : (f : ℕ → ℕ → Bool) (xs ys : List ℕ) (i k : ℕ) (b : Bool) → b ≡ any_pair f (take (i + k - i) (drop i xs)) (take (i + k - i) (drop i ys))
-    → any_pair f (drop i xs) (drop i ys) ≡ (b || any_pair f (drop (i + k) xs) (drop (i + k) ys))
-pair-block f xs ys i k b e =
-    let n : i + k - i ≡ k = omega arith in
-    rw (e, n, ← drop-drop k i xs, ← drop-drop k i ys) (any-split f k (drop i xs) (drop i ys))
-
-pub pair-rest : (f : ℕ → ℕ → Bool) (xs ys : List ℕ) (i : ℕ) (b : Bool) → b ≡ any_pair f (take (length xs - i) (drop i xs)) (take (length ys - i) (drop i ys))
-    → b ≡ any_pair f (drop i xs) (drop i ys)
-pair-rest f xs ys i b e =
-    e ∙ ap₂ (any_pair f) (take_all (length xs - i) (drop i xs) (rw length-drop (omega arith))) (take_all (length ys - i) (drop i ys) (rw length-drop (omega arith)))
+-- the pairs as blocks of n and what is left behind k of them
+pub pair-blocks : (f : ℕ → ℕ → Bool) (n k : ℕ) (xs ys : List ℕ)
+    → any_pair f xs ys ≡ (list_any (λ (p : List ℕ × List ℕ). any_pair f p.0 p.1) (zip (first_chunks n k xs) (first_chunks n k ys)) || any_pair f (drop (k * n) xs) (drop (k * n) ys))
+pair-blocks f n zero xs ys = rw (zero-mul n)
+pair-blocks f n (suc k) xs ys =
+    let e : n + k * n ≡ suc k * n = omega arith in
+    any-split f n xs ys
+    ∙ ap (λ (b : Bool). any_pair f (take n xs) (take n ys) || b) (pair-blocks f n k (drop n xs) (drop n ys) ∙ rw (drop-drop (k * n) n xs, drop-drop (k * n) n ys, e))
+    ∙ sym (or_assoc (any_pair f (take n xs) (take n ys)) (list_any (λ (p : List ℕ × List ℕ). any_pair f p.0 p.1) (zip (first_chunks n k (drop n xs)) (first_chunks n k (drop n ys))))
+    (any_pair f (drop (suc k * n) xs) (drop (suc k * n) ys)))
 
 -- some cell is not erased
 abbrev pub written : List ℕ → Bool
@@ -130,10 +131,11 @@ written-split zero l = refl
 written-split (suc k) [] = refl
 written-split (suc k) (x ∷ xs) = ap (λ (b : Bool). unequal x ff || b) (written-split k xs) ∙ sym (or_assoc (unequal x ff) (written (take k xs)) (written (drop k xs)))
 
-pub fill-block : (l : List ℕ) (i k : ℕ) (b : Bool) → b ≡ written (take (i + k - i) (drop i l)) → written (drop i l) ≡ (b || written (drop (i + k) l))
-fill-block l i k b e =
-    let n : i + k - i ≡ k = omega arith in
-    rw (e, n, ← drop-drop k i l) (written-split k (drop i l))
-
-pub fill-rest : (l : List ℕ) (i : ℕ) (b : Bool) → b ≡ written (take (length l - i) (drop i l)) → b ≡ written (drop i l)
-fill-rest l i b e = e ∙ ap written (take_all (length l - i) (drop i l) (rw length-drop (omega arith)))
+-- the cells as blocks of n and what is left behind k of them
+pub written-blocks : (n k : ℕ) (l : List ℕ) → written l ≡ (list_any written (first_chunks n k l) || written (drop (k * n) l))
+written-blocks n zero l = rw (zero-mul n)
+written-blocks n (suc k) l =
+    let e : n + k * n ≡ suc k * n = omega arith in
+    written-split n l
+    ∙ ap (λ (b : Bool). written (take n l) || b) (written-blocks n k (drop n l) ∙ rw (drop-drop (k * n) n l, e))
+    ∙ sym (or_assoc (written (take n l)) (list_any written (first_chunks n k (drop n l))) (written (drop (suc k * n) l)))

@@ -5,21 +5,21 @@
 -- Assumes nothing.
 use mathlib.Core.Path.{◌≡◌, sym, ap, ◌∙◌}
 use mathlib.Core.List.{List, ◌++◌}
-use Prim.Native.Nat.{ℕ, ◌+◌, ◌-◌, ◌≤◌, ◌<◌}
+use Prim.Native.Nat.{ℕ, ◌+◌, ◌≤◌, ◌<◌}
 use native.Mathlib.Nat.{zero-add}
 use native.Mathlib.Omega.{arith}
-use lib.ListN.{length, take, drop}
+use lib.ListN.{length, drop}
 use borrow.Author.Tests.{le-leb, lt-leb}
 use Rattle.basics.specs.Parts.{part, overlaid}
-use Rattle.basics.proofs.Parts.{length_part, part-lent}
-use Rattle.device.specs.declared.Postimage.TheVariants.{Cells, BufferTooShort}
+use Rattle.basics.proofs.Parts.{length_part}
+use Rattle.std.specs.Prelude.{Ok, Err}
 use Rattle.device.specs.Media.{anded, postimage}
 use Rattle.device.specs.Answers.{Copied, copied}
 use Rattle.device.proofs.Cells.{length-anded}
 
 module _ (media : List ℕ) (offset : ℕ) (src buffer : List ℕ) where
   pub post-outside : length media < offset + length src
-      → ◌≡◌ {A = Copied} (record { answer = Cells 0; buffer = buffer }) (copied buffer (postimage media offset src))
+      → ◌≡◌ {A = Copied} (record { answer = Ok 0; buffer = buffer }) (copied buffer (postimage media offset src))
   unfolding postimage overlaid
   post-outside h = rw (lt-leb (offset + length src) (length media) h, le-leb 0 (length buffer) (omega arith))
 
@@ -38,12 +38,12 @@ module _ (media : List ℕ) (offset : ℕ) (src buffer : List ℕ) where
         ap length post_is ∙ length-anded (part media offset (length src)) src l ∙ l
 
     pub post-short : length buffer < length src
-        → ◌≡◌ {A = Copied} (record { answer = BufferTooShort; buffer = buffer }) (copied buffer (postimage media offset src))
+        → ◌≡◌ {A = Copied} (record { answer = Err 13; buffer = buffer }) (copied buffer (postimage media offset src))
     post-short h = rw (lt-leb (length (postimage media offset src)) (length buffer) (rw length-post h))
 
-    pub post-written : (new : List ℕ) → length src ≤ length buffer → new ≡ anded (take (offset + length src - offset) (drop offset media)) src
-        → ◌≡◌ {A = Copied} (record { answer = Cells (length src); buffer = new ++ drop (length src) buffer }) (copied buffer (postimage media offset src))
+    pub post-written : (new : List ℕ) → length src ≤ length buffer → new ≡ anded (part media offset (length src)) src
+        → ◌≡◌ {A = Copied} (record { answer = Ok (length src); buffer = new ++ drop (length src) buffer }) (copied buffer (postimage media offset src))
     unfolding overlaid cells
     post-written new h e =
-        let is : new ≡ postimage media offset src = e ∙ ap (λ (l : List ℕ). anded l src) (part-lent media offset (length src) fits) ∙ sym post_is in
+        let is : new ≡ postimage media offset src = e ∙ sym post_is in
         rw (le-leb (length (postimage media offset src)) (length buffer) (rw length-post h), is, length-post, zero-add (length src))

@@ -7,17 +7,21 @@
 
 ghost use Rattle.std.specs.Prelude.{◌≡◌, not, length, replicate};
 ghost use Rattle.device.specs.Media.{ff, new_media, anded, any_pair, unequal, Applied, applied, programmed, erased, postimage, erase_would_change};
-ghost use Rattle.device.specs.Answers.{number_of_postimage, Copied, copied};
+ghost use Rattle.device.specs.Answers.{Copied, copied};
+ghost use Rattle.basics.specs.Replies.{numbered};
+ghost use Rattle.refusals.specs.Numbers.{number_of};
+
+use refusals::Refusal;
 
 // The byte an erased cell reads as.
 pub const ERASED: u8 = 0xFF;
 
 // How many cells a question looks at before it may stop. A loop without a way out is compiled to vectors, so each block is
 // looked at whole, and the search ends between blocks.
-const BLOCK: usize = 128;
+pub const BLOCK: usize = 128;
 
 // What a program does that asks for a bit which the media have already cleared.
-#[derive(Clone, Copy)]
+#[derive(Clone, Copy, Debug, PartialEq, Eq)]
 pub enum OneWayBits {
     // Clear the bits that can be cleared and ignore the rest, as hardware does.
     Absorbed,
@@ -25,46 +29,32 @@ pub enum OneWayBits {
     Rejected,
 }
 
-// What `postimage_of` answers: how many cells it wrote, or that the buffer is shorter than the result.
-#[derive(Clone, Copy)]
-pub enum Postimage {
-    Cells(usize),
-    BufferTooShort,
-}
-
 // Makes the media those of a new device: every cell becomes ERASED.
 pub fn fill_erased(media: &mut [u8])
     ensures { media.new ≡ new_media (length media.old) }
 {
-    let mut filled = 0;
-    while filled < media.len() {
-        media[filled] = ERASED;
-        filled += 1;
-    }
+    media.fill(ERASED);
 }
 
 // Each cell becomes cell AND byte. Tells whether a cell changed, which is not whether bytes were offered: 0xFF over
-// anything changes nothing.
+// anything changes nothing. (By index: of what a `zip` of `iter_mut` wrote a proof knows the length alone.)
 fn and_cells(cells: &mut [u8], src: &[u8]) -> bool
     requires { length cells.old ≡ length src.now }
     ensures { ◌≡◌ {A = Applied} (record { media = cells.new; changed = result }) (applied cells.old (anded cells.old src.now)) }
 {
     let mut changed = false;
-    let mut i = 0;
-    while i < src.len() {
+    for i in 0..src.len() {
         let cell = cells[i];
         let after = cell & src[i];
-        if after != cell {
-            changed = true;
-        }
+        changed |= cell != after;
         cells[i] = after;
-        i += 1;
     }
     changed
 }
 
 // Programs `src` at `offset` with no geometry check, as a torn write does: each cell becomes cell AND byte. Tells whether
-// a cell changed. Where `offset..offset + src.len()` is not in the media, false, and nothing changes.
+// a cell changed. Where `offset..offset + src.len()` is not in the media, false, and nothing changes. (Here and in
+// `apply_erase` the range is tested by hand: of a part that `get_mut` lends, a proof knows no cells.)
 pub fn apply_program(media: &mut [u8], offset: u32, src: &[u8]) -> bool
     ensures { ◌≡◌ {A = Applied} (record { media = media.exit.now; changed = result }) (applied media.entry.now (programmed media.entry.now offset src.now)) }
 {
@@ -81,12 +71,8 @@ fn any_written(cells: &[u8]) -> bool
     ensures { result ≡ any_pair unequal cells.now (replicate (length cells.now) ff) }
 {
     let mut found = false;
-    let mut i = 0;
-    while i < cells.len() {
-        if cells[i] != ERASED {
-            found = true;
-        }
-        i += 1;
+    for cell in cells {
+        found |= *cell != ERASED;
     }
     found
 }
@@ -95,15 +81,8 @@ fn any_written(cells: &[u8]) -> bool
 fn slice_is_erased(cells: &[u8]) -> bool
     ensures { result ≡ not (any_pair unequal cells.now (replicate (length cells.now) ff)) }
 {
-    let mut i = 0;
-    while BLOCK <= cells.len() - i {
-        let block_end = i + BLOCK;
-        if any_written(&cells[i..block_end]) {
-            return false;
-        }
-        i = block_end;
-    }
-    !any_written(&cells[i..])
+    let (blocks, rest) = cells.as_chunks::<BLOCK>();
+    !blocks.iter().any(|block| any_written(block)) && !any_written(rest)
 }
 
 // Every cell becomes ERASED. Tells whether a cell changed.
@@ -128,35 +107,33 @@ pub fn apply_erase(media: &mut [u8], offset: u32, len: u32) -> bool
     erase_cells(&mut media[start..erase_end])
 }
 
-// What programming `src` over `cells` would leave, into a buffer of that length.
+// What programming `src` over `cells` would leave, into a buffer of that length. (A copy of the cells and then `and_cells` take
+// twice as long.)
 fn and_into(cells: &[u8], src: &[u8], out: &mut [u8])
     requires { (length cells.now ≡ length src.now) × (length out.old ≡ length src.now) }
     ensures { out.new ≡ anded cells.now src.now }
 {
-    let mut i = 0;
-    while i < src.len() {
+    for i in 0..src.len() {
         out[i] = cells[i] & src[i];
-        i += 1;
     }
 }
 
 // What programming `src` at `offset` would leave behind, cell by cell, at the start of `out`; the rest of `out` is left
 // alone. Where the range is not in the media there are no such cells, so 0 are written. A buffer shorter than the result is
 // refused with 13 and not written.
-pub fn postimage_of(media: &[u8], offset: u32, src: &[u8], out: &mut [u8]) -> Postimage
-    ensures { ◌≡◌ {A = Copied} (record { answer = result; buffer = out.new }) (copied out.old (postimage media.now offset src.now)) }
+pub fn postimage_of(media: &[u8], offset: u32, src: &[u8], out: &mut [u8]) -> Result<usize, Refusal>
+    ensures { ◌≡◌ {A = Copied} (record { answer = numbered number_of result; buffer = out.new }) (copied out.old (postimage media.now offset src.now)) }
 {
     let start = offset as usize;
     let count = src.len();
-    let image_end = start + count;
-    if image_end > media.len() {
-        return Postimage::Cells(0);
-    }
+    let Some(cells) = media.get(start..start + count) else {
+        return Ok(0);
+    };
     if out.len() < count {
-        return Postimage::BufferTooShort;
+        return Err(Refusal::ColumnsTooShort);
     }
-    and_into(&media[start..image_end], src, &mut out[..count]);
-    Postimage::Cells(count)
+    and_into(cells, src, &mut out[..count]);
+    Ok(count)
 }
 
 // Whether erasing `offset..offset + len` would change any cell. False where the range is not in the media.
@@ -164,21 +141,8 @@ pub fn erase_would_change(media: &[u8], offset: u32, len: u32) -> bool
     ensures { result ≡ erase_would_change media.now offset len }
 {
     let start = offset as usize;
-    let asked_end = start + len as usize;
-    if asked_end > media.len() {
+    let Some(cells) = media.get(start..start + len as usize) else {
         return false;
-    }
-    !slice_is_erased(&media[start..asked_end])
-}
-
-impl Postimage {
-    // 0 where the cells were written, else 13.
-    pub fn refusal(self) -> u32
-        ensures { result ≡ number_of_postimage self }
-    {
-        match self {
-            Postimage::Cells(_) => 0,
-            Postimage::BufferTooShort => 13,
-        }
-    }
+    };
+    !slice_is_erased(cells)
 }

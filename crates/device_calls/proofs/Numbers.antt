@@ -1,15 +1,12 @@
 -- The paper's numbers and the answers' cases are the same thing told twice.
 --     small-geometry     no check of the geometry answers with a number above 6
 --     fault-numbered, number-fault    the fault with a number, and the number of a fault
---     reply-numbered     the number of the reply with a number
+--     one_fault          no two faults share a number, so an answer is told by its number
 -- Assumes nothing.
-use mathlib.Core.Path.{◌≡◌, refl}
-use mathlib.Core.Logic.{⊎_elim}
-use Prim.Native.Nat.{ℕ, zero, suc, ◌≤◌, ◌<◌}
-use native.Mathlib.Nat.{suc-ne-zero}
+use mathlib.Core.Path.{◌≡◌, refl, sym, ap, ◌∙◌}
+use Prim.Native.Nat.{ℕ, ◌≤◌, ◌<◌}
 use native.Mathlib.Omega.{arith}
 use borrow.Author.Tests.{ne_eqb}
-use Rattle.basics.proofs.Tests.{le-or-gt}
 use Rattle.storage.specs.declared.Geometry.{Geometry}
 use Rattle.storage.specs.declared.GeometryError.TheVariants.{ZeroUnit, UnitIsNotAPowerOfTwo, UnitsDoNotNest, MisalignedOffset, MisalignedLength, OutOfBounds}
 use Rattle.storage.specs.Geometry.{geometry_test}
@@ -17,14 +14,14 @@ use Rattle.storage.specs.Answers.{error_of}
 use Rattle.storage.proofs.Numbers.{numbered, geometry-most}
 use Rattle.device_calls.specs.declared.FaultError.{FaultError}
 use Rattle.device_calls.specs.declared.FaultError.TheVariants as fault
-use Rattle.device_calls.specs.Answers.{number_of_fault, number_of_reply, fault_of, replied}
+use Rattle.device_calls.specs.Answers.{number_of_fault, fault_of}
 
 -- ---- how large a number may be
 
 pub small-geometry : (g : Geometry) → geometry_test g ≤ 6
 small-geometry g = omega (arith, geometry-most g)
 
--- ---- a reply's number
+-- ---- a fault's number
 
 -- the numbers 1 to 6 are the geometry's
 fault-small : (n : ℕ) → n ≤ 6 → fault_of n ≡ fault.Geometry (error_of n)
@@ -53,11 +50,6 @@ number-fault fault.PowerLoss = refl
 number-fault fault.WatchdogReset = refl
 number-fault fault.InjectedFailure = refl
 
--- a reply's number
-pub reply-numbered : (n : ℕ) → n ≤ 7 → number_of_reply (replied n) ≡ n
-reply-numbered zero h = refl
-reply-numbered (suc n) h =
-    ⊎_elim
-    (λ small. rw (ne_eqb (suc n) 0 (suc-ne-zero n)) (fault-numbered (suc n) (omega arith) small))
-    (λ large. let e : suc n ≡ 7 = omega arith in rw e)
-    (le-or-gt (suc n) 6)
+-- no two faults share a number
+pub one_fault : (e f : FaultError) → number_of_fault e ≡ number_of_fault f → e ≡ f
+one_fault e f h = sym (number-fault e) ∙ ap fault_of h ∙ number-fault f

@@ -1,16 +1,14 @@
 -- Document 01, "device.rs (342)" and "Numbers from the input": the device's own calls, each as the reply and what it leaves.
 -- Definitions only; assumes nothing.
-use Rattle.std.specs.Prelude.{◌&&◌, cond, List, [], ◌∷◌, ℕ, ◌^◌, length, eqb, ltb}
+use Rattle.std.specs.Prelude.{◌&&◌, Result, Ok, Err, cond, List, [], ◌∷◌, ℕ, ◌^◌, length, eqb, ltb}
 use Rattle.basics.specs.Tests.{unless, refuse_if, first_of}
 use Rattle.basics.specs.Parts.{part}
 use Rattle.storage.specs.declared.Geometry.{Geometry}
 use Rattle.storage.specs.Geometry.{geometry_test}
 use Rattle.storage.specs.Span.{read_test, program_test, erase_test}
 use Rattle.device.specs.declared.OneWayBits.{OneWayBits}
-use Rattle.device_calls.specs.declared.Reply.{Reply}
 use Rattle.device.specs.Media.{programmed, erased, would_set_a_bit}
 use Rattle.device.specs.Answers.{rejects}
-use Rattle.device_calls.specs.Answers.{replied}
 
 -- ---- which number refuses a call, 0 for none
 
@@ -21,6 +19,10 @@ media_test g media = unless (eqb media g.capacity) 7
 -- "6 also for a buffer longer than u32"
 abbrev pub buffer_test : (buffer : ℕ) → ℕ
 buffer_test buffer = unless (ltb buffer (2 ^ 32)) 6
+
+-- a buffer's length as a u32; where it is none, the geometry's number comes before the 6
+abbrev pub counted : Geometry → (buffer : ℕ) → Result ℕ ℕ
+counted g buffer = cond (ltb buffer (2 ^ 32)) (Ok buffer) (Err (first_of (geometry_test g ∷ 6 ∷ [])))
 
 -- The device's own calls are no session calls: "Elsewhere the lowest number comes first, save that 6 for a buffer comes before 4
 -- and 5". So the geometry, the buffer, the span, then the media; media and buffer are told by their lengths.
@@ -45,14 +47,14 @@ program_refusal g rule media offset src =
 
 -- ---- the calls
 
--- a reply, and the content of the slice that the call may write: the media, or a read's buffer
+-- the number that refuses the call, 0 for none, and the content of the slice that the call may write: the media, or a read's buffer
 pub record Called : Type 0 where
-  pub reply : Reply
+  pub reply : ℕ
   pub content : List ℕ
 
 -- "These change no buffer": a call that a number refuses replies with it and leaves the content, any other leaves it new
 abbrev pub called : (number : ℕ) (before after : List ℕ) → Called
-called number before after = record { reply = replied number; content = cond (eqb number 0) after before }
+called number before after = record { reply = number; content = cond (eqb number 0) after before }
 
 -- the buffer then holds the cells from offset on
 unfoldable pub read_call : Geometry → (media : List ℕ) (offset : ℕ) (buffer : List ℕ) → Called

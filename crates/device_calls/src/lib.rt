@@ -4,21 +4,22 @@
 // holds at the end, after a refusal too.
 #![tactic(auto)]
 
-ghost use Rattle.std.specs.Prelude.{◌≡◌, [], ◌∷◌, length};
-ghost use Rattle.basics.specs.Tests.{first_of};
-ghost use Rattle.storage.specs.Geometry.{geometry_test};
-ghost use Rattle.storage.specs.Answers.{number_of_validated, answered};
-ghost use Rattle.device_calls.specs.Answers.{number_of_fault, number_of_reply, replied};
-ghost use Rattle.device_calls.specs.Calls.{media_test, read_refusal, write_refusal, barrier_refusal, Called, read_call, program_call, erase_call};
+ghost use Rattle.std.specs.Prelude.{◌≡◌, length};
+ghost use Rattle.basics.specs.Replies.{number_in, numbered};
+ghost use Rattle.storage.specs.Answers.{number_of};
+ghost use Rattle.refusals.specs.Numbers.{number_of as refusal_number};
+ghost use Rattle.device_calls.specs.declared.FaultError.TheVariants.{Geometry};
+ghost use Rattle.device_calls.specs.Answers.{number_of_fault};
+ghost use Rattle.device_calls.specs.Nonzero.{fault-nonzero};
+ghost use Rattle.device_calls.specs.Calls.{media_test, counted, barrier_refusal, Called, read_call, program_call, erase_call};
 
+use basics::Numbered;
 use device::OneWayBits;
-use storage::{Geometry, GeometryError, Validated};
-
-// The longest buffer whose length is a u32.
-const LONGEST: usize = 0xFFFF_FFFF;
+use refusals::Refusal;
+use storage::{Geometry, GeometryError};
 
 // Anything a modelled device can refuse to do.
-#[derive(Clone, Copy)]
+#[derive(Clone, Copy, Debug, PartialEq, Eq)]
 pub enum FaultError {
     // The operation is not one this geometry permits.
     Geometry(GeometryError),
@@ -34,91 +35,74 @@ pub enum FaultError {
     InjectedFailure,
 }
 
-// What the device's own calls answer.
-#[derive(Clone, Copy)]
-pub enum Reply {
-    Accepted,
-    Refused(FaultError),
-}
+impl Numbered for FaultError {
+    ghost number = { number_of_fault };
 
-// Copies cells into a buffer of their length.
-fn copy_cells(cells: &[u8], dst: &mut [u8])
-    requires { length dst.old ≡ length cells.now }
-    ensures { dst.new ≡ cells.now }
-{
-    let mut copied = 0;
-    while copied < cells.len() {
-        dst[copied] = cells[copied];
-        copied += 1;
+    ghost nonzero = { fault-nonzero };
+
+    // Document 01's number of the fault, which is that of the refusal it is.
+    fn number(self) -> u32 {
+        Refusal::from(self).number()
     }
 }
 
-// What refuses a call: what the geometry's check of it answered (1 to 6), and then media that are not of capacity length (7):
-// the lowest number comes first.
-fn checked_media(geometry: Geometry, media: usize, checked: Validated) -> Reply
-    ensures { result ≡ replied (first_of (number_of_validated checked ∷ media_test geometry media ∷ [])) }
-{
-    if let Validated::Illegal(error) = checked {
-        return Reply::Refused(FaultError::Geometry(error));
+impl From<GeometryError> for FaultError {
+    ghost from_gives = { λ error fault. fault ≡ Geometry error };
+
+    fn from(error: GeometryError) -> FaultError {
+        FaultError::Geometry(error)
     }
+}
+
+impl From<FaultError> for Refusal {
+    ghost from_gives = { λ fault refusal. refusal_number refusal ≡ number_of_fault fault };
+
+    fn from(fault: FaultError) -> Refusal {
+        match fault {
+            FaultError::Geometry(error) => Refusal::Geometry(error),
+            FaultError::MediaLength => Refusal::MediaLength,
+            FaultError::BitSetWithoutErase => Refusal::BitSetWithoutErase,
+            FaultError::PowerLoss => Refusal::PowerLoss,
+            FaultError::WatchdogReset => Refusal::WatchdogReset,
+            FaultError::InjectedFailure => Refusal::InjectedFailure,
+        }
+    }
+}
+
+// A buffer's length as a geometry counts it. No span of a length above u32 is within a capacity: 6, behind the geometry's own
+// number.
+fn counted(geometry: Geometry, buffer: usize) -> Result<u32, GeometryError>
+    ensures { numbered number_of result ≡ counted geometry buffer }
+{
+    if let Ok(len) = u32::try_from(buffer) {
+        return Ok(len);
+    }
+    geometry.check()?;
+    Err(GeometryError::OutOfBounds)
+}
+
+// Whether media of this length are of the geometry's capacity.
+fn check_media(geometry: Geometry, media: usize) -> Result<(), FaultError>
+    ensures { number_in number_of_fault result ≡ media_test geometry media }
+{
     if media != geometry.capacity as usize {
-        return Reply::Refused(FaultError::MediaLength);
+        return Err(FaultError::MediaLength);
     }
-    Reply::Accepted
-}
-
-// What the geometry answers to a buffer longer than a u32 can count: no span of it is within a capacity.
-fn longer_than_u32(geometry: Geometry) -> Validated
-    ensures { result ≡ answered (first_of (geometry_test geometry ∷ 6 ∷ [])) }
-{
-    let checked = geometry.check();
-    match checked {
-        Validated::Legal => Validated::Illegal(GeometryError::OutOfBounds),
-        Validated::Illegal(error) => Validated::Illegal(error),
-    }
-}
-
-// What refuses a read into a buffer of `read_len` bytes, or nothing.
-fn check_read(geometry: Geometry, media: usize, offset: u32, read_len: usize) -> Reply
-    ensures { result ≡ replied (read_refusal geometry media offset read_len) }
-{
-    if read_len > LONGEST {
-        return checked_media(geometry, media, longer_than_u32(geometry));
-    }
-    checked_media(
-        geometry,
-        media,
-        geometry.validate_read(offset, read_len as u32),
-    )
-}
-
-// What refuses a program of `program_len` bytes before the media are looked at, or nothing.
-fn check_program(geometry: Geometry, media: usize, offset: u32, program_len: usize) -> Reply
-    ensures { result ≡ replied (write_refusal geometry media offset program_len) }
-{
-    if program_len > LONGEST {
-        return checked_media(geometry, media, longer_than_u32(geometry));
-    }
-    checked_media(
-        geometry,
-        media,
-        geometry.validate_program(offset, program_len as u32),
-    )
+    Ok(())
 }
 
 // Reads `dst.len()` cells at `offset` into `dst`. Refused, with `dst` as it was: 1 to 3 for the geometry, 6 for a buffer longer
 // than a u32 can count, 4 to 6 for the span, 7 for media that are not of capacity length.
-pub fn read(geometry: Geometry, media: &[u8], offset: u32, dst: &mut [u8]) -> Reply
-    ensures { ◌≡◌ {A = Called} (record { reply = result; content = dst.new }) (read_call geometry media.now offset dst.old) }
+pub fn read(geometry: Geometry, media: &[u8], offset: u32, dst: &mut [u8]) -> Result<(), FaultError>
+    ensures { ◌≡◌ {A = Called} (record { reply = number_in number_of_fault result; content = dst.new }) (read_call geometry media.now offset dst.old) }
 {
-    let checked = check_read(geometry, media.len(), offset, dst.len());
-    if let Reply::Refused(read_fault) = checked {
-        return Reply::Refused(read_fault);
-    }
+    let len = counted(geometry, dst.len())?;
+    geometry.validate_read(offset, len)?;
+    check_media(geometry, media.len())?;
     let start = offset as usize;
     let read_end = start + dst.len();
-    copy_cells(&media[start..read_end], dst);
-    Reply::Accepted
+    dst.copy_from_slice(&media[start..read_end]);
+    Ok(())
 }
 
 // Programs `src` at `offset`: each cell becomes cell AND byte. Refused, with the media as they were: as `read`, against the
@@ -129,67 +113,35 @@ pub fn program(
     media: &mut [u8],
     offset: u32,
     src: &[u8],
-) -> Reply
-    ensures { ◌≡◌ {A = Called} (record { reply = result; content = media.new }) (program_call geometry rule media.old offset src.now) }
+) -> Result<(), FaultError>
+    ensures { ◌≡◌ {A = Called} (record { reply = number_in number_of_fault result; content = media.new }) (program_call geometry rule media.old offset src.now) }
 {
-    let checked = check_program(geometry, media.len(), offset, src.len());
-    if let Reply::Refused(program_fault) = checked {
-        return Reply::Refused(program_fault);
-    }
-    if let OneWayBits::Rejected = rule {
-        if device_questions::would_set_a_bit(media, offset, src) {
-            return Reply::Refused(FaultError::BitSetWithoutErase);
-        }
+    let len = counted(geometry, src.len())?;
+    geometry.validate_program(offset, len)?;
+    check_media(geometry, media.len())?;
+    if rule == OneWayBits::Rejected && device_questions::would_set_a_bit(media, offset, src) {
+        return Err(FaultError::BitSetWithoutErase);
     }
     device::apply_program(media, offset, src);
-    Reply::Accepted
+    Ok(())
 }
 
 // Erases `offset..offset + len`: each cell becomes ERASED. Refused, with the media as they were: 1 to 3, 4 to 6 against the
 // erase unit, then 7.
-pub fn erase(geometry: Geometry, media: &mut [u8], offset: u32, len: u32) -> Reply
-    ensures { ◌≡◌ {A = Called} (record { reply = result; content = media.new }) (erase_call geometry media.old offset len) }
+pub fn erase(geometry: Geometry, media: &mut [u8], offset: u32, len: u32) -> Result<(), FaultError>
+    ensures { ◌≡◌ {A = Called} (record { reply = number_in number_of_fault result; content = media.new }) (erase_call geometry media.old offset len) }
 {
-    let checked = checked_media(geometry, media.len(), geometry.validate_erase(offset, len));
-    if let Reply::Refused(erase_fault) = checked {
-        return Reply::Refused(erase_fault);
-    }
+    geometry.validate_erase(offset, len)?;
+    check_media(geometry, media.len())?;
     device::apply_erase(media, offset, len);
-    Reply::Accepted
+    Ok(())
 }
 
 // Succeeds and changes nothing: the media are the durable state. Refused with 1 to 3 for the geometry, then 7 for media that
 // are not of capacity length.
-pub fn barrier(geometry: Geometry, media: &[u8]) -> Reply
-    ensures { result ≡ replied (barrier_refusal geometry (length media.now)) }
+pub fn barrier(geometry: Geometry, media: &[u8]) -> Result<(), FaultError>
+    ensures { number_in number_of_fault result ≡ barrier_refusal geometry (length media.now) }
 {
-    checked_media(geometry, media.len(), geometry.check())
-}
-
-impl FaultError {
-    // Document 01's number of the fault.
-    pub fn number(self) -> u32
-        ensures { result ≡ number_of_fault self }
-    {
-        match self {
-            FaultError::Geometry(error) => error.number(),
-            FaultError::MediaLength => 7,
-            FaultError::BitSetWithoutErase => 20,
-            FaultError::PowerLoss => 21,
-            FaultError::WatchdogReset => 22,
-            FaultError::InjectedFailure => 23,
-        }
-    }
-}
-
-impl Reply {
-    // 0 where the call was accepted, else the fault's number.
-    pub fn refusal(self) -> u32
-        ensures { result ≡ number_of_reply self }
-    {
-        match self {
-            Reply::Accepted => 0,
-            Reply::Refused(fault) => fault.number(),
-        }
-    }
+    geometry.check()?;
+    check_media(geometry, media.len())
 }

@@ -7,7 +7,8 @@
 
 ghost use Rattle.std.specs.Prelude.{◌<◌};
 
-use device::{OneWayBits, Postimage};
+use basics::number_in;
+use device::OneWayBits;
 use std::io;
 use storage::Geometry;
 
@@ -17,31 +18,11 @@ const BYTES: [u8; 16] = [
     0xFF, 0xF0, 0x00, 0x0F, 0xA5, 0xFF, 0x7F, 0x5A, 0xFE, 0x80, 0xFF, 0x3C, 0x01, 0xFF, 0xC3, 0x00,
 ];
 
-// A number and a blank.
-fn print(rt: &impl Print, n: usize) -> io::Result<()> {
-    print!(rt; "{n} ")
-}
-
-// A u32 and a blank.
-fn print_u32(rt: &impl Print, n: u32) -> io::Result<()> {
-    print!(rt; "{n} ")
-}
-
-// A yes as 1, a no as 0, and a blank.
-fn print_flag(rt: &impl Print, answer: bool) -> io::Result<()> {
-    if answer { print(rt, 1) } else { print(rt, 0) }
-}
-
-// A blank and a byte.
-fn print_byte(rt: &impl Print, byte: u8) -> io::Result<()> {
-    print!(rt; " {byte}")
-}
-
 // The end of a line: a colon, and bytes.
 fn print_bytes(rt: &impl Print, bytes: &[u8]) -> io::Result<()> {
     rt.write_all(b":")?;
-    for i in 0..bytes.len() {
-        print_byte(rt, bytes[i])?;
+    for byte in bytes {
+        print!(rt; " {byte}")?;
     }
     rt.write_all(b"\n")
 }
@@ -56,10 +37,10 @@ fn of_table(bytes: &mut [u8], from: usize)
 }
 
 fn rule_of(rule: u32) -> OneWayBits {
-    if rule == 0 {
-        return OneWayBits::Absorbed;
+    match rule {
+        0 => OneWayBits::Absorbed,
+        _ => OneWayBits::Rejected,
     }
-    OneWayBits::Rejected
 }
 
 // What stands before an answer: the call's kind, the rule, the capacity, the cells lent, and the span.
@@ -72,12 +53,8 @@ fn print_call(
     offset: u32,
     len: usize,
 ) -> io::Result<()> {
-    print(rt, kind)?;
-    print_u32(rt, rule)?;
-    print_u32(rt, geometry.capacity)?;
-    print(rt, cells)?;
-    print_u32(rt, offset)?;
-    print(rt, len)
+    let capacity = geometry.capacity;
+    print!(rt; "{kind} {rule} {capacity} {cells} {offset} {len} ")
 }
 
 fn program_case(
@@ -94,8 +71,14 @@ fn program_case(
     let mut src = [0u8; 8];
     of_table(&mut src, place);
     print_call(rt, 0, rule, geometry, media.len(), offset, len)?;
-    let reply = device_calls::program(geometry, rule_of(rule), media, offset, &src[..len]);
-    print_u32(rt, reply.refusal())?;
+    let refused = number_in(device_calls::program(
+        geometry,
+        rule_of(rule),
+        media,
+        offset,
+        &src[..len],
+    ));
+    print!(rt; "{refused} ")?;
     print_bytes(rt, media)
 }
 
@@ -108,8 +91,8 @@ fn read_into(
     dst: &mut [u8],
 ) -> io::Result<()> {
     print_call(rt, 1, rule, geometry, media.len(), offset, dst.len())?;
-    let reply = device_calls::read(geometry, media, offset, dst);
-    print_u32(rt, reply.refusal())?;
+    let refused = number_in(device_calls::read(geometry, media, offset, dst));
+    print!(rt; "{refused} ")?;
     print_bytes(rt, dst)
 }
 
@@ -141,8 +124,8 @@ fn erase_case(
     let offset = OFFSETS[place / 9];
     let len = place % 9;
     print_call(rt, 2, rule, geometry, media.len(), offset, len)?;
-    let reply = device_calls::erase(geometry, media, offset, len as u32);
-    print_u32(rt, reply.refusal())?;
+    let refused = number_in(device_calls::erase(geometry, media, offset, len as u32));
+    print!(rt; "{refused} ")?;
     print_bytes(rt, media)
 }
 
@@ -155,8 +138,8 @@ fn calls(rt: &impl Print, geometry: Geometry, rule: u32, media: &mut [u8]) -> io
         erase_case(rt, geometry, rule, media, place)?;
     }
     print_call(rt, 3, rule, geometry, media.len(), 0, 0)?;
-    let reply = device_calls::barrier(geometry, media);
-    print_u32(rt, reply.refusal())?;
+    let refused = number_in(device_calls::barrier(geometry, media));
+    print!(rt; "{refused} ")?;
     print_bytes(rt, media)
 }
 
@@ -191,20 +174,19 @@ fn print_questions(
     src: &[u8],
     len: u32,
 ) -> io::Result<()> {
-    print_flag(rt, device_questions::would_set_a_bit(media, offset, src))?;
-    print_flag(rt, device_questions::differs_from(media, offset, src))?;
-    print_flag(rt, device::erase_would_change(media, offset, len))
+    let sets = device_questions::would_set_a_bit(media, offset, src) as u8;
+    let differs = device_questions::differs_from(media, offset, src) as u8;
+    let changes = device::erase_would_change(media, offset, len) as u8;
+    print!(rt; "{sets} {differs} {changes} ")
 }
 
 // The cells that programming would leave: the number, how many, and a buffer of three bytes.
 fn print_postimage(rt: &impl Print, media: &[u8], offset: u32, src: &[u8]) -> io::Result<()> {
     let mut out = [90u8; 3];
     let answer = device::postimage_of(media, offset, src, &mut out);
-    print_u32(rt, answer.refusal())?;
-    match answer {
-        Postimage::Cells(count) => print(rt, count)?,
-        Postimage::BufferTooShort => print(rt, 0)?,
-    }
+    let refused = number_in(answer);
+    let count = answer.unwrap_or(0);
+    print!(rt; "{refused} {count} ")?;
     print_bytes(rt, &out)
 }
 
@@ -216,18 +198,16 @@ fn question_case(rt: &impl Print, media: [u8; 12], place: usize) -> io::Result<(
     let len = place % 5;
     let mut src = [0u8; 4];
     of_table(&mut src, place);
-    print_u32(rt, offset)?;
-    print(rt, len)?;
+    print!(rt; "{offset} {len} ")?;
     print_questions(rt, &media, offset, &src[..len], len as u32)?;
     let mut programmed = media;
-    print_flag(
-        rt,
-        device::apply_program(&mut programmed, offset, &src[..len]),
-    )?;
+    let changed = device::apply_program(&mut programmed, offset, &src[..len]) as u8;
+    print!(rt; "{changed} ")?;
     print_bytes(rt, &programmed)?;
     print_postimage(rt, &media, offset, &src[..len])?;
     let mut erased = media;
-    print_flag(rt, device::apply_erase(&mut erased, offset, len as u32))?;
+    let changed = device::apply_erase(&mut erased, offset, len as u32) as u8;
+    print!(rt; "{changed} ")?;
     print_bytes(rt, &erased)
 }
 

@@ -13,18 +13,9 @@ ghost use Rattle.device.specs.Answers.{number_of_postimage, copied};
 ghost use Rattle.device_calls.specs.Calls.{read_refusal, program_refusal, erase_refusal, barrier_refusal, read_call, program_call, erase_call};
 ghost use Rattle.device_exported.specs.Device.{rule_of, count_over};
 
-use device::{OneWayBits, Postimage};
+use basics::{Numbered, number_in};
+use device::OneWayBits;
 use storage::Geometry;
-
-// 1 for yes, 0 for no.
-fn flag_of(yes: bool) -> u32
-    ensures { result ≡ flag yes }
-{
-    if yes {
-        return 1;
-    }
-    0
-}
 
 // The geometry of four units.
 fn units(capacity: u32, erase: u32, program: u32, read: u32) -> Geometry
@@ -42,10 +33,10 @@ fn units(capacity: u32, erase: u32, program: u32, read: u32) -> Geometry
 fn rule_of(rule: u32) -> OneWayBits
     ensures { result ≡ rule_of rule }
 {
-    if rule == 0 {
-        return OneWayBits::Absorbed;
+    match rule {
+        0 => OneWayBits::Absorbed,
+        _ => OneWayBits::Rejected,
     }
-    OneWayBits::Rejected
 }
 
 // `fill_erased`: the media of a new device.
@@ -61,8 +52,7 @@ pub extern "C" fn device_fill_erased(media: &mut [u8])
 pub extern "C" fn device_apply_program(media: &mut [u8], offset: u32, src: &[u8]) -> u32
     ensures { (result ≡ flag (any_changed media.old (programmed media.old offset src.now))) × (media.new ≡ programmed media.old offset src.now) }
 {
-    let changed = device::apply_program(media, offset, src);
-    flag_of(changed)
+    u32::from(device::apply_program(media, offset, src))
 }
 
 // `apply_erase`: whether a cell changed.
@@ -70,8 +60,7 @@ pub extern "C" fn device_apply_program(media: &mut [u8], offset: u32, src: &[u8]
 pub extern "C" fn device_apply_erase(media: &mut [u8], offset: u32, len: u32) -> u32
     ensures { (result ≡ flag (any_changed media.old (erased media.old offset len))) × (media.new ≡ erased media.old offset len) }
 {
-    let changed = device::apply_erase(media, offset, len);
-    flag_of(changed)
+    u32::from(device::apply_erase(media, offset, len))
 }
 
 // `would_set_a_bit`: whether a byte has a 1 where its cell has 0.
@@ -79,8 +68,7 @@ pub extern "C" fn device_apply_erase(media: &mut [u8], offset: u32, len: u32) ->
 pub extern "C" fn device_would_set_a_bit(media: &[u8], offset: u32, src: &[u8]) -> u32
     ensures { result ≡ flag (would_set_a_bit media.now offset src.now) }
 {
-    let sets = device_questions::would_set_a_bit(media, offset, src);
-    flag_of(sets)
+    u32::from(device_questions::would_set_a_bit(media, offset, src))
 }
 
 // `postimage_of`: 0 or 13, the cells at the start of `out`, and through `count` how many they are; a refusal leaves both.
@@ -94,13 +82,12 @@ pub extern "C" fn device_postimage_of(
 ) -> u32
     ensures { (result ≡ number_of_postimage (copied out.old (postimage media.now offset src.now)).answer) × (out.new ≡ (copied out.old (postimage media.now offset src.now)).buffer) × (count.new ≡ count_over (copied out.old (postimage media.now offset src.now)).answer count.old) }
 {
-    let answer = device::postimage_of(media, offset, src, out);
-    match answer {
-        Postimage::Cells(cells) => {
+    match device::postimage_of(media, offset, src, out) {
+        Ok(cells) => {
             *count = cells;
             0
         }
-        Postimage::BufferTooShort => 13,
+        Err(refusal) => refusal.number(),
     }
 }
 
@@ -109,8 +96,7 @@ pub extern "C" fn device_postimage_of(
 pub extern "C" fn device_differs_from(media: &[u8], offset: u32, expected: &[u8]) -> u32
     ensures { result ≡ flag (differs_from media.now offset expected.now) }
 {
-    let differs = device_questions::differs_from(media, offset, expected);
-    flag_of(differs)
+    u32::from(device_questions::differs_from(media, offset, expected))
 }
 
 // `erase_would_change`: whether erasing the part would change a cell.
@@ -118,8 +104,7 @@ pub extern "C" fn device_differs_from(media: &[u8], offset: u32, expected: &[u8]
 pub extern "C" fn device_erase_would_change(media: &[u8], offset: u32, len: u32) -> u32
     ensures { result ≡ flag (erase_would_change media.now offset len) }
 {
-    let changes = device::erase_would_change(media, offset, len);
-    flag_of(changes)
+    u32::from(device::erase_would_change(media, offset, len))
 }
 
 // `read`: the number that refuses it, and `dst` with the cells from `offset` on; a refusal leaves `dst`.
@@ -136,8 +121,7 @@ pub extern "C" fn device_read(
     ensures { (result ≡ read_refusal (geometry_of capacity erase program read) (length media.now) offset (length dst.old)) × (dst.new ≡ (read_call (geometry_of capacity erase program read) media.now offset dst.old).content) }
 {
     let geometry = units(capacity, erase, program, read);
-    let reply = device_calls::read(geometry, media, offset, dst);
-    reply.refusal()
+    number_in(device_calls::read(geometry, media, offset, dst))
 }
 
 // `program`: the number that refuses it, and the media with the bytes programmed; a refusal leaves the media.
@@ -156,8 +140,7 @@ pub extern "C" fn device_program(
 {
     let geometry = units(capacity, erase, program, read);
     let bits = rule_of(rule);
-    let reply = device_calls::program(geometry, bits, media, offset, src);
-    reply.refusal()
+    number_in(device_calls::program(geometry, bits, media, offset, src))
 }
 
 // `erase`: the number that refuses it, and the media with the part erased; a refusal leaves the media.
@@ -174,8 +157,7 @@ pub extern "C" fn device_erase(
     ensures { (result ≡ erase_refusal (geometry_of capacity erase program read) (length media.old) offset len) × (media.new ≡ (erase_call (geometry_of capacity erase program read) media.old offset len).content) }
 {
     let geometry = units(capacity, erase, program, read);
-    let reply = device_calls::erase(geometry, media, offset, len);
-    reply.refusal()
+    number_in(device_calls::erase(geometry, media, offset, len))
 }
 
 // `barrier`: the number that refuses it.
@@ -189,6 +171,6 @@ pub extern "C" fn device_barrier(
 ) -> u32
     ensures { result ≡ barrier_refusal (geometry_of capacity erase program read) (length media.now) }
 {
-    let reply = device_calls::barrier(units(capacity, erase, program, read), media);
-    reply.refusal()
+    let geometry = units(capacity, erase, program, read);
+    number_in(device_calls::barrier(geometry, media))
 }

@@ -4,10 +4,9 @@
 #![tactic(auto)]
 
 ghost use Rattle.std.specs.Prelude.{◌≡◌, length};
-ghost use Rattle.device.specs.Media.{any_pair, unequal, sets_a_bit, would_set_a_bit, differs_from};
+ghost use Rattle.device.specs.Media.{any_pair, sets_a_bit, would_set_a_bit, differs_from};
 
-// How many cells a question looks at before it may stop, as in `device`: a loop without a way out is compiled to vectors.
-const BLOCK: usize = 128;
+use device::BLOCK;
 
 // Whether some byte has a 1 where its cell has 0. Looks at every byte.
 fn any_sets(cells: &[u8], src: &[u8]) -> bool
@@ -15,13 +14,8 @@ fn any_sets(cells: &[u8], src: &[u8]) -> bool
     ensures { result ≡ any_pair sets_a_bit cells.now src.now }
 {
     let mut found = false;
-    let mut i = 0;
-    while i < src.len() {
-        let wanted = src[i];
-        if wanted & cells[i] != wanted {
-            found = true;
-        }
-        i += 1;
+    for (cell, wanted) in cells.iter().zip(src) {
+        found |= *wanted & *cell != *wanted;
     }
     found
 }
@@ -31,15 +25,13 @@ fn sets_a_bit(cells: &[u8], src: &[u8]) -> bool
     requires { length cells.now ≡ length src.now }
     ensures { result ≡ any_pair sets_a_bit cells.now src.now }
 {
-    let mut i = 0;
-    while BLOCK <= src.len() - i {
-        let block_end = i + BLOCK;
-        if any_sets(&cells[i..block_end], &src[i..block_end]) {
-            return true;
-        }
-        i = block_end;
-    }
-    any_sets(&cells[i..], &src[i..])
+    let (blocks, rest) = cells.as_chunks::<BLOCK>();
+    let (wanted, rest_wanted) = src.as_chunks::<BLOCK>();
+    blocks
+        .iter()
+        .zip(wanted)
+        .any(|(cells, src)| any_sets(cells, src))
+        || any_sets(rest, rest_wanted)
 }
 
 // Whether programming `src` at `offset` would ask for a bit that only an erase can restore. False where the range is not
@@ -48,43 +40,10 @@ pub fn would_set_a_bit(media: &[u8], offset: u32, src: &[u8]) -> bool
     ensures { result ≡ would_set_a_bit media.now offset src.now }
 {
     let start = offset as usize;
-    let wanted_end = start + src.len();
-    if wanted_end > media.len() {
+    let Some(cells) = media.get(start..start + src.len()) else {
         return false;
-    }
-    sets_a_bit(&media[start..wanted_end], src)
-}
-
-// Whether some cell differs from what is expected there. Looks at every cell.
-fn any_differ(cells: &[u8], expected: &[u8]) -> bool
-    requires { length cells.now ≡ length expected.now }
-    ensures { result ≡ any_pair unequal cells.now expected.now }
-{
-    let mut found = false;
-    let mut i = 0;
-    while i < expected.len() {
-        if cells[i] != expected[i] {
-            found = true;
-        }
-        i += 1;
-    }
-    found
-}
-
-// The same, block by block.
-fn differ(cells: &[u8], expected: &[u8]) -> bool
-    requires { length cells.now ≡ length expected.now }
-    ensures { result ≡ any_pair unequal cells.now expected.now }
-{
-    let mut i = 0;
-    while BLOCK <= expected.len() - i {
-        let block_end = i + BLOCK;
-        if any_differ(&cells[i..block_end], &expected[i..block_end]) {
-            return true;
-        }
-        i = block_end;
-    }
-    any_differ(&cells[i..], &expected[i..])
+    };
+    sets_a_bit(cells, src)
 }
 
 // Whether the media at `offset` differ from `expected`, byte for byte. Not whether programming these bytes would change
@@ -94,9 +53,8 @@ pub fn differs_from(media: &[u8], offset: u32, expected: &[u8]) -> bool
     ensures { result ≡ differs_from media.now offset expected.now }
 {
     let start = offset as usize;
-    let expected_end = start + expected.len();
-    if expected_end > media.len() {
-        return expected.len() != 0;
-    }
-    differ(&media[start..expected_end], expected)
+    let Some(cells) = media.get(start..start + expected.len()) else {
+        return !expected.is_empty();
+    };
+    cells != expected
 }

@@ -11,34 +11,20 @@ pub const OFFSET_BASIS: u64 = 0xcbf2_9ce4_8422_2325;
 // FNV's 64-bit prime.
 pub const PRIME: u64 = 0x100_0000_01b3;
 
-// The product modulo 2^64: `a` is added once for each bit that is set in `b`, shifted to that bit's place. Where `b` is a constant the
-// compiler unrolls the loop and folds what is left to one multiplication.
+// The product modulo 2^64: the one multiplication of the program that may wrap.
 pub fn wrapping_mul(a: u64, b: u64) -> u64
     ensures { result ≡ a * b % 2 ^ 64 }
 {
-    let mut product: u64 = 0;
-    let mut shifted = a;
-    let mut bits = b;
-    while bits != 0 {
-        if bits % 2 == 1 {
-            product = std::num::wrapping_add_u64(product, shifted);
-        }
-        shifted = shifted << 1;
-        bits = bits / 2;
-    }
-    product
+    a.wrapping_mul(b)
 }
 
 // FNV-1a over all the bytes.
 pub fn digest(bytes: &[u8]) -> u64
     ensures { result ≡ digest_of bytes.now }
 {
-    let mut hash: u64 = OFFSET_BASIS;
-    let mut i = 0;
-    while i < bytes.len() {
-        let mixed = hash ^ (bytes[i] as u64);
-        hash = wrapping_mul(mixed, PRIME);
-        i += 1;
+    let mut hash = OFFSET_BASIS;
+    for byte in bytes {
+        hash = wrapping_mul(hash ^ *byte as u64, PRIME);
     }
     hash
 }

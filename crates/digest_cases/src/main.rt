@@ -4,23 +4,14 @@
 
 use std::io;
 
-fn show(rt: &impl Print, text: &[u8]) -> io::Result<()> {
-    rt.write_all(text)?;
-    let value = digest::digest(text);
-    println!(rt; "\t{value:016x}")
-}
+const TEXTS: [&str; 12] = [
+    "", "a", "b", "c", "d", "e", "f", "fo", "foo", "foob", "fooba", "foobar",
+];
 
 fn main(rt: HostRuntime) -> io::Result<()> {
-    show(&rt, b"")?;
-    show(&rt, b"a")?;
-    show(&rt, b"b")?;
-    show(&rt, b"c")?;
-    show(&rt, b"d")?;
-    show(&rt, b"e")?;
-    show(&rt, b"f")?;
-    show(&rt, b"fo")?;
-    show(&rt, b"foo")?;
-    show(&rt, b"foob")?;
-    show(&rt, b"fooba")?;
-    show(&rt, b"foobar")
+    for text in TEXTS {
+        let value = digest::digest(text.as_bytes());
+        println!(&rt; "{text}\t{value:016x}")?;
+    }
+    Ok(())
 }

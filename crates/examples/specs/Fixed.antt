@@ -1,7 +1,7 @@
 -- Document 01, "Fixed examples, P to be proved": the rows marked P, as one statement about the definitions, and beside them an
 -- order that they do not show.
 -- Definitions only; assumes nothing.
-use Rattle.std.specs.Prelude.{◌≡◌, Bool, true, false, List, [], ◌∷◌, ℕ, length}
+use Rattle.std.specs.Prelude.{◌≡◌, Bool, true, false, List, [], ◌∷◌, ℕ, length, Some as At}
 use Rattle.storage.specs.declared.Geometry.{Geometry}
 use Rattle.storage.specs.Geometry.{geometry_of, geometry_test}
 use Rattle.storage.specs.Span.{program_test}
@@ -18,7 +18,6 @@ use Rattle.landing.specs.Landed.{program_landed, erase_landed}
 use Rattle.model.specs.declared.Durability.TheVariants.{PossiblyDurable}
 use Rattle.model.specs.Ledger.{Entry}
 use Rattle.session.specs.declared.Told.{Told}
-use Rattle.session.specs.declared.Armed.TheVariants.{At}
 use Rattle.session.specs.Armed.{told_with}
 use Rattle.records.specs.Records.{begin}
 use Rattle.plain.specs.Plain.{Call, act, mark, program, plain}

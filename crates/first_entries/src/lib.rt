@@ -4,75 +4,43 @@
 #![tactic(auto)]
 
 ghost use Rattle.std.specs.Prelude.{◌≡◌};
+ghost use Rattle.basics.specs.Replies.{numbered};
+ghost use Rattle.refusals.specs.Numbers.{number_of};
 ghost use Rattle.model.specs.Columns.{state_of};
 ghost use Rattle.first_entries.specs.Answers.{state_asked, torn_asked};
 
-use id_columns::Place;
-use model::Durability;
+use model::{Durability, LedgerRef};
+use refusals::Refusal;
 
-// The state of an id's first entry.
-#[derive(Clone, Copy)]
-pub enum StateAnswer {
-    StateRefused(u8),
-    NoState,
-    StateIs(Durability),
-}
-
-// Whether an id's first entry is torn.
-#[derive(Clone, Copy)]
-pub enum TornAnswer {
-    TornRefused(u8),
-    NoTorn,
-    TornIs(bool),
-}
-
-// The state that a code stands for.
+// The state that a code stands for. No code above 2 is left to ask: `refusal` comes first.
 fn durability_of(code: u8) -> Durability
     ensures { result ≡ state_of code }
 {
-    if code == 0 {
-        Durability::Attempted
-    } else if code == 1 {
-        Durability::PossiblyDurable
-    } else {
-        Durability::Acknowledged
+    match code {
+        0 => Durability::Attempted,
+        1 => Durability::PossiblyDurable,
+        _ => Durability::Acknowledged,
     }
 }
 
-// The state that `id` ended in: that of its first entry.
-pub fn state(ids: &[u32], states: &[u8], torn: &[u8], id: u32) -> StateAnswer
-    ensures { result ≡ state_asked ids.now states.now torn.now id }
+// The state that `id` ended in: that of its first entry. None where it has no entry.
+pub fn state(ledger: &LedgerRef<'_>, id: u32) -> Result<Option<Durability>, Refusal>
+    ensures { numbered number_of result ≡ state_asked ledger.now.ids.now ledger.now.states.now ledger.now.torn.now id }
 {
-    let number = model::refusal(ids, states, torn);
-    if number != 0 {
-        return StateAnswer::StateRefused(number);
-    }
-    let place = id_columns::first_place(ids, id);
-    match place {
-        Place::NoPlace => StateAnswer::NoState,
-        Place::PlaceIs(i) => StateAnswer::StateIs(durability_of(states[i])),
-    }
+    ledger.refusal()?;
+    let Some(at) = id_columns::first_place(ledger.ids, id) else {
+        return Ok(None);
+    };
+    Ok(Some(durability_of(ledger.states[at])))
 }
 
 // Whether some of `id`'s bytes are on media and the rest are not, by its first entry. Never so where the state is attempted.
-pub fn torn(ids: &[u32], states: &[u8], torn: &[u8], id: u32) -> TornAnswer
-    ensures { result ≡ torn_asked ids.now states.now torn.now id }
+pub fn torn(ledger: &LedgerRef<'_>, id: u32) -> Result<Option<bool>, Refusal>
+    ensures { numbered number_of result ≡ torn_asked ledger.now.ids.now ledger.now.states.now ledger.now.torn.now id }
 {
-    let number = model::refusal(ids, states, torn);
-    if number != 0 {
-        return TornAnswer::TornRefused(number);
-    }
-    let place = id_columns::first_place(ids, id);
-    match place {
-        Place::NoPlace => TornAnswer::NoTorn,
-        Place::PlaceIs(i) => {
-            if states[i] == 0 {
-                return TornAnswer::TornIs(false);
-            }
-            if torn[i] == 1 {
-                return TornAnswer::TornIs(true);
-            }
-            TornAnswer::TornIs(false)
-        }
-    }
+    ledger.refusal()?;
+    let Some(at) = id_columns::first_place(ledger.ids, id) else {
+        return Ok(None);
+    };
+    Ok(Some((ledger.states[at] != 0) & (ledger.torn[at] == 1)))
 }

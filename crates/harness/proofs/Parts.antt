@@ -7,10 +7,9 @@ use native.Mathlib.Omega.{arith}
 use lib.ListN.{length, take}
 use borrow.Author.Tests.{ne_eqb}
 use Rattle.landing.specs.declared.Stop.{Stop}
-use Rattle.inject.specs.declared.Counted.{Counted}
-use Rattle.inject.specs.declared.Counted.TheVariants.{Points, NotCounted}
+use Rattle.std.specs.Prelude.{Result, Ok as Points, Err as NotCounted}
 use Rattle.inject.specs.Answers.{counted}
-use Rattle.session.specs.declared.Armed.TheVariants.{Nothing}
+use Rattle.std.specs.Prelude.{None as Nothing}
 use Rattle.ledger.specs.Ledger.{Entered, entered_of}
 use Rattle.script.specs.declared.Head.{Head}
 use Rattle.script.specs.Calls.{Call}
@@ -19,13 +18,9 @@ use Rattle.script.specs.Held.{calls_in}
 use Rattle.rows.specs.Ready.{Ready}
 use Rattle.basics.proofs.Lists.{take-lower}
 use Rattle.rows.proofs.Numbers.{ready}
-use Rattle.harness_runs.specs.declared.Ran.{Ran}
-use Rattle.harness_runs.specs.declared.Ran.TheVariants
-use Rattle.harness_runs.specs.Running.{zeros, RunLeft, run_left, run_number, run_call, no_entries}
+use Rattle.harness_runs.specs.Running.{Ran, Ended, NotRun, zeros, RunLeft, run_left, run_number, run_call, no_entries}
 use Rattle.sweeps.specs.Decided.{range_behind}
-use Rattle.harness.specs.declared.Opened.{Opened}
-use Rattle.harness.specs.declared.Opened.TheVariants.{Runs, NotSwept}
-use Rattle.harness.specs.Opening.{open_count, open_points, open_left, opened_with, open_call}
+use Rattle.harness.specs.Opening.{Opened, Runs, NotSwept, open_count, open_points, open_left, opened_with, open_call}
 
 -- ---- the crash points of the fault-free run
 
@@ -35,7 +30,7 @@ module _ (h : Head) (operations : ℕ) (xs : List Call) (ks os ls : List ℕ) (b
   points-26 t = rw (← b, t)
 
   module _ (f : (not h.carries_on && behind) ≡ false) (n : ℕ) (m : n ≡ min operations (length ks)) (eo : length os ≡ length ks) (el : length ls ≡ length ks)
-      (c : Counted) (e : c ≡ counted h.geometry (take n ks) (take n os) (take n ls)) where
+      (c : Result ℕ ℕ) (e : c ≡ counted h.geometry (take n ks) (take n os) (take n ls)) where
     points-are : open_count operations c ≡ open_points h operations xs ks os ls
     unfolding open_points
     points-are =
@@ -54,7 +49,7 @@ module _ (h : Head) (operations : ℕ) (xs : List Call) (ks os ls : List ℕ) (b
 -- ---- the sweep opened
 
 run-refused-is : (h : Head) (rows : ℕ) (k : Columns) (media copy ks os ls : List ℕ) (n : ℕ) → run_number h rows k (length media) (length copy) ≡ suc n
-    → run_call h Nothing rows k media copy ks os ls no_entries ≡ run_left (TheVariants.NotRun (suc n)) media copy ks os ls no_entries
+    → run_call h Nothing rows k media copy ks os ls no_entries ≡ run_left (NotRun (suc n)) media copy ks os ls no_entries
 unfolding run_call
 run-refused-is h rows k media copy ks os ls n z = rw (z, ne_eqb (suc n) 0 (λ w. omega arith))
 
@@ -67,25 +62,25 @@ module _ (h : Head) (rows : ℕ) (k : Columns) (media copy ks os ls : List ℕ) 
   unfolding open_call
   opened-is q p = ap (λ (x : Ran). opened_with h (calls_in rows k) (run_left x media₁ copy₁ ks₁ os₁ ls₁ e₁)) (sym p) ∙ ap (opened_with h (calls_in rows k)) ran-is
 
-  pub open-refused : (n : ℕ) → r ≡ TheVariants.NotRun n → open_left (NotSwept n) media₁ copy₁ ks₁ os₁ ls₁ ≡ open_call h rows k media copy ks os ls
-  open-refused n p = opened-is (TheVariants.NotRun n) p
+  pub open-refused : (n : ℕ) → r ≡ NotRun n → open_left (NotSwept n) media₁ copy₁ ks₁ os₁ ls₁ ≡ open_call h rows k media copy ks os ls
+  open-refused n p = opened-is (NotRun n) p
 
-  module _ (stop : Stop) (operations count : ℕ) (failed : Bool) (p : r ≡ TheVariants.Ended stop operations count failed) where
+  module _ (stop : Stop) (operations count : ℕ) (failed : Bool) (p : r ≡ Ended stop operations count failed) where
     pub open-failed : failed ≡ true → open_left (NotSwept 24) media₁ copy₁ ks₁ os₁ ls₁ ≡ open_call h rows k media copy ks os ls
-    open-failed f = rw f at (opened-is (TheVariants.Ended stop operations count failed) p)
+    open-failed f = rw f at (opened-is (Ended stop operations count failed) p)
 
     pub open-runs : failed ≡ false → (o : Opened) → o ≡ open_points h operations (calls_in rows k) ks₁ os₁ ls₁
         → open_left o media₁ copy₁ ks₁ os₁ ls₁ ≡ open_call h rows k media copy ks os ls
     open-runs f o q =
         ap (λ (x : Opened). open_left x media₁ copy₁ ks₁ os₁ ls₁) q
-        ∙ (rw f at (opened-is (TheVariants.Ended stop operations count failed) p))
+        ∙ (rw f at (opened-is (Ended stop operations count failed) p))
 
     -- a run that was not refused
     not-refused : (n : ℕ) → run_number h rows k (length media) (length copy) ≡ n → n ≡ 0
     not-refused zero z = refl
     not-refused (suc n) z = absurd (differ (sym p ∙ ap (λ (x : RunLeft). x.reply) (ran-is ∙ run-refused-is h rows k media copy ks os ls n z)))
       where
-        differ : TheVariants.Ended stop operations count failed ≡ TheVariants.NotRun (suc n) → ⊥
+        differ : Ended stop operations count failed ≡ NotRun (suc n) → ⊥
         differ w = let v : ◌≡◌ {A = ℕ} 0 1 = cc in omega arith
 
     pub open-ready : Ready rows k

@@ -1,23 +1,32 @@
 -- Document 01, "Scripts and the two programs": the fault-free run, and whether there is a sweep. Definitions only; assumes nothing.
-use Rattle.std.specs.Prelude.{cond, List, ℕ, take}
-use Rattle.inject.specs.declared.Counted.{Counted}
-use Rattle.inject.specs.declared.Counted.TheVariants.{Points, NotCounted}
+use Rattle.std.specs.Prelude.{cond, List, Result, Ok, Err, Ok as Points, Err as NotCounted, ℕ, take}
+use Rattle.refusals.specs.declared.Refusal.{Refusal}
+use Rattle.refusals.specs.Numbers.{number_of}
+use Rattle.harness.specs.declared.Sweep.{Sweep}
 use Rattle.inject.specs.Answers.{counted}
-use Rattle.session.specs.declared.Armed.TheVariants.{Nothing}
+use Rattle.std.specs.Prelude.{None as Nothing}
 use Rattle.script.specs.declared.Head.{Head}
 use Rattle.script.specs.Calls.{Call}
 use Rattle.script.specs.Columns.{Columns}
 use Rattle.script.specs.Held.{calls_in}
-use Rattle.harness_runs.specs.declared.Ran.{Ran}
-use Rattle.harness_runs.specs.declared.Ran.TheVariants.{Ended, NotRun}
+use Rattle.harness_runs.specs.Running.{Ran}
+use Rattle.harness_runs.specs.Running.{Ended, NotRun}
 use Rattle.harness_runs.specs.Running.{zeros, RunLeft, run_call, no_entries, cells}
 use Rattle.sweeps.specs.Decided.{meets26}
-use Rattle.harness.specs.declared.Opened.{Opened}
-use Rattle.harness.specs.declared.Opened.TheVariants.{Runs, NotSwept}
+
+-- how many operations the fault-free run recorded, and how many crash points they have; or the number that refuses the sweep
+pub data Opened : Type 0 where
+  Runs : (operations points : ℕ) → Opened
+  NotSwept : (number : ℕ) → Opened
+
+-- the code's answer so
+abbrev pub opened_as : Result Sweep Refusal → Opened
+opened_as (Ok s) = Runs s.operations s.points
+opened_as (Err e) = NotSwept (number_of e)
 
 -- the operations recorded and how many crash points they have; over columns of 1,024 rows no script's operations are refused here
 -- (`counts-pass` of `text_of_runs`)
-abbrev pub open_count : (operations : ℕ) → Counted → Opened
+abbrev pub open_count : (operations : ℕ) → Result ℕ ℕ → Opened
 open_count operations (Points points) = Runs operations points
 open_count operations (NotCounted number) = NotSwept number
 

@@ -4,24 +4,22 @@
 #![tactic(auto)]
 
 ghost use Rattle.std.specs.Prelude.{◌≡◌, ◌≤◌, min, length};
-ghost use Rattle.script.specs.Columns.{columns};
+ghost use Rattle.script.specs.Lent.{columns_seen};
 ghost use Rattle.script.specs.Held.{calls_in};
 ghost use Rattle.rows.specs.Ready.{Ready};
 ghost use Rattle.sweeps.specs.Decided.{range_behind};
-ghost use Rattle.harness.specs.Opening.{open_points, open_left, open_call};
+ghost use Rattle.harness.specs.Opening.{opened_as, open_points, open_left, open_call};
 ghost use Rattle.harness.specs.Inner.{is_behind, ops_in};
 
-use harness_runs::Ran;
-use inject::Counted;
-use script::Head;
-use session::Armed;
+use inject::OpsRef;
+use refusals::Refusal;
+use script::{CallsRef, Head};
 
-// What opening a sweep answers: how many operations the fault-free run recorded, and how many crash points they have; or the
-// number that refuses the sweep.
-#[derive(Clone, Copy)]
-pub enum Opened {
-    Runs(usize, u64),
-    NotSwept(u32),
+// A sweep: how many operations its fault-free run recorded, and how many crash points they have.
+#[derive(Clone, Copy, Debug, PartialEq, Eq)]
+pub struct Sweep {
+    pub operations: usize,
+    pub points: u64,
 }
 
 // ---- the fault-free run
@@ -41,27 +39,17 @@ fn operations_in(kind: u8) -> usize
 }
 
 // Whether some row marks a range that begins or ends before an operation of an earlier row.
-fn range_behind(
-    rows: usize,
-    kinds: &[u8],
-    firsts: &[u32],
-    seconds: &[u32],
-    thirds: &[u32],
-    starts: &[u32],
-    pool: &[u8],
-) -> bool
-    requires { Ready rows (columns kinds.now firsts.now seconds.now thirds.now starts.now pool.now) }
-    ensures { result ≡ range_behind 0 (calls_in rows (columns kinds.now firsts.now seconds.now thirds.now starts.now pool.now)) }
+fn range_behind(rows: usize, calls: &CallsRef<'_>) -> bool
+    requires { Ready rows (columns_seen calls.now) }
+    ensures { result ≡ range_behind 0 (calls_in rows (columns_seen calls.now)) }
 {
     let mut operations: usize = 0;
-    let mut i: usize = 0;
-    while i < rows {
-        let kind = kinds[i];
-        if is_behind(kind, seconds[i], thirds[i], operations) {
+    for i in 0..rows {
+        let kind = calls.kinds[i];
+        if is_behind(kind, calls.seconds[i], calls.thirds[i], operations) {
             return true;
         }
         operations += operations_in(kind);
-        i += 1;
     }
     false
 }
@@ -71,64 +59,46 @@ fn open_points(
     head: Head,
     operations: usize,
     rows: usize,
-    kinds: &[u8],
-    firsts: &[u32],
-    seconds: &[u32],
-    thirds: &[u32],
-    starts: &[u32],
-    pool: &[u8],
-    ops: &[u8],
-    spans: &[u32],
-    sizes: &[u32],
-) -> Opened
-    requires { (Ready rows (columns kinds.now firsts.now seconds.now thirds.now starts.now pool.now)) × (length spans.now ≡ length ops.now) × (length sizes.now ≡ length ops.now) }
-    ensures { result ≡ open_points head operations (calls_in rows (columns kinds.now firsts.now seconds.now thirds.now starts.now pool.now)) ops.now spans.now sizes.now }
+    calls: &CallsRef<'_>,
+    ops: &OpsRef<'_>,
+) -> Result<Sweep, Refusal>
+    requires { (Ready rows (columns_seen calls.now)) × (length ops.now.offsets.now ≡ length ops.now.kinds.now) × (length ops.now.lens.now ≡ length ops.now.kinds.now) }
+    ensures { opened_as result ≡ open_points head operations (calls_in rows (columns_seen calls.now)) ops.now.kinds.now ops.now.offsets.now ops.now.lens.now }
 {
-    let behind = range_behind(rows, kinds, firsts, seconds, thirds, starts, pool);
-    let carries = head.carries_on;
-    if !carries & behind {
-        return Opened::NotSwept(26);
+    if !head.carries_on & range_behind(rows, calls) {
+        return Err(Refusal::Diverged);
     }
-    let n = basics::lower(operations, ops.len());
-    let geometry = head.geometry;
-    let counted = inject::injection_count(&ops[..n], &spans[..n], &sizes[..n], geometry);
-    match counted {
-        Counted::Points(points) => Opened::Runs(operations, points),
-        Counted::NotCounted(number) => Opened::NotSwept(number),
-    }
+    let n = basics::lower(operations, ops.kinds.len());
+    let recorded = OpsRef {
+        kinds: &ops.kinds[..n],
+        offsets: &ops.offsets[..n],
+        lens: &ops.lens[..n],
+    };
+    let points = recorded.injection_count(head.geometry)?;
+    Ok(Sweep { operations, points })
 }
 
 // Opens a sweep: the fault-free run of a script's rows. Its operations are left in the log.
 pub fn open_sweep(
     head: Head,
     rows: usize,
-    kinds: &[u8],
-    firsts: &[u32],
-    seconds: &[u32],
-    thirds: &[u32],
-    starts: &[u32],
-    pool: &[u8],
+    calls: &CallsRef<'_>,
     media: &mut [u8],
     copy: &mut [u8],
     ops: &mut [u8; 1024],
     spans: &mut [u32; 1024],
     sizes: &mut [u32; 1024],
-) -> Opened
-    ensures { open_left result media.new copy.new ops.new spans.new sizes.new ≡ open_call head rows (columns kinds.now firsts.now seconds.now thirds.now starts.now pool.now) media.old copy.old ops.old spans.old sizes.old }
+) -> Result<Sweep, Refusal>
+    ensures { open_left (opened_as result) media.new copy.new ops.new spans.new sizes.new ≡ open_call head rows (columns_seen calls.now) media.old copy.old ops.old spans.old sizes.old }
 {
     let mut ids = [0u32; 512];
     let mut states = [0u8; 512];
     let mut torn = [0u8; 512];
-    let ran = harness_runs::run_one(
+    let run = harness_runs::run_one(
         head,
-        Armed::Nothing,
+        None,
         rows,
-        kinds,
-        firsts,
-        seconds,
-        thirds,
-        starts,
-        pool,
+        calls,
         media,
         copy,
         ops,
@@ -137,17 +107,14 @@ pub fn open_sweep(
         &mut ids,
         &mut states,
         &mut torn,
-    );
-    match ran {
-        Ran::NotRun(number) => Opened::NotSwept(number),
-        Ran::Ended(_, operations, _, failed) => {
-            if failed {
-                return Opened::NotSwept(24);
-            }
-            open_points(
-                head, operations, rows, kinds, firsts, seconds, thirds, starts, pool, ops, spans,
-                sizes,
-            )
-        }
+    )?;
+    if run.failed {
+        return Err(Refusal::WriterFailed);
     }
+    let recorded = OpsRef {
+        kinds: ops,
+        offsets: spans,
+        lens: sizes,
+    };
+    open_points(head, run.operations, rows, calls, &recorded)
 }

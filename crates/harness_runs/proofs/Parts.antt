@@ -7,12 +7,12 @@ use lib.ListN.{length, take, replicate}
 use borrow.Author.Tests.{ne_eqb}
 use Rattle.device.specs.Media.{new_media}
 use Rattle.model.specs.Columns.{all_up_to}
-use Rattle.session.specs.declared.Armed.{Armed}
+use Rattle.session.specs.Armed.{Armed}
 use Rattle.session.specs.declared.Told.{Told}
 use Rattle.session.specs.declared.Counters.{Counters}
 use Rattle.session.specs.Log.{Log, log_of, Marks, marks_of}
 use Rattle.session.specs.Start.{fresh}
-use Rattle.ledger.specs.declared.Derived.{Derived}
+use Rattle.ledger.specs.Ledger.{Derived}
 use Rattle.ledger.specs.Ledger.{Entered, Ledgered, ledgered, ledger_call}
 use Rattle.threaded.specs.Threaded.{Session}
 use Rattle.script.specs.declared.Head.{Head}
@@ -25,8 +25,8 @@ use Rattle.runner.specs.declared.Ended.{Ended}
 use Rattle.runner.specs.Run.{tasks_in, ran_rows, Leaves, left_of, leaves}
 use Rattle.runner.proofs.Lines.{tasks-calls, wrote_by, writes}
 use Rattle.sweeps.specs.Sweep.{told_by}
-use Rattle.harness_runs.specs.declared.Ran.{Ran}
-use Rattle.harness_runs.specs.declared.Ran.TheVariants.{NotRun}
+use Rattle.harness_runs.specs.Running.{Ran}
+use Rattle.harness_runs.specs.Running.{NotRun}
 use Rattle.harness_runs.specs.Running.{zeros, ended_by, run_left, left_by, ledgered_with, opening, run_number, run_call}
 
 -- a session's own columns of zeros

@@ -1,13 +1,17 @@
 -- Document 01, "Scripts and the two programs": a script's run with at most one injection, and its ledger. Definitions only; assumes nothing.
-use Rattle.std.specs.Prelude.{Bool, false, cond, List, ℕ, length, take, replicate, eqb}
+use Rattle.std.specs.Prelude.{Bool, false, cond, List, Result, Ok, Err, ℕ, length, take, replicate, eqb}
 use Rattle.device.specs.Media.{new_media}
-use Rattle.session.specs.declared.Armed.{Armed}
+use Rattle.refusals.specs.declared.Refusal.{Refusal}
+use Rattle.refusals.specs.Numbers.{number_of}
+use Rattle.landing.specs.declared.Stop.{Stop}
+use Rattle.harness_runs.specs.declared.Run.{Run}
+use Rattle.session.specs.Armed.{Armed}
 use Rattle.session.specs.declared.Told.{Told}
 use Rattle.session.specs.declared.Counters.{Counters}
 use Rattle.session.specs.Log.{log_of, marks_of}
 use Rattle.session.specs.Start.{fresh}
-use Rattle.ledger.specs.declared.Derived.{Derived}
-use Rattle.ledger.specs.declared.Derived.TheVariants.{Entries, NotDerived}
+use Rattle.ledger.specs.Ledger.{Derived}
+use Rattle.std.specs.Prelude.{Ok as Entries, Err as NotDerived}
 use Rattle.ledger.specs.Ledger.{Entered, entered_of, Ledgered}
 use Rattle.threaded.specs.Threaded.{Session, session_ledgered}
 use Rattle.script.specs.declared.Head.{Head}
@@ -16,8 +20,17 @@ use Rattle.script.specs.Held.{calls_in}
 use Rattle.rows.specs.Rows.{rows_number}
 use Rattle.steps.specs.Writer.{Wrote, wrote}
 use Rattle.sweeps.specs.Sweep.{told_by}
-use Rattle.harness_runs.specs.declared.Ran.{Ran}
-use Rattle.harness_runs.specs.declared.Ran.TheVariants.{Ended, NotRun}
+
+-- how a run ended: the session's stop, the operations recorded, how many entries its ledger has, and whether the writer returned an
+-- error; or the number that refuses the run
+pub data Ran : Type 0 where
+  Ended : Stop → (operations entries : ℕ) → (failed : Bool) → Ran
+  NotRun : (number : ℕ) → Ran
+
+-- the code's answer so
+abbrev pub ran_as : Result Run Refusal → Ran
+ran_as (Ok r) = Ended r.stop r.operations r.entries r.failed
+ran_as (Err e) = NotRun (number_of e)
 
 -- so many zeros
 unfoldable pub zeros : ℕ → List ℕ

@@ -4,23 +4,27 @@
 #![tactic(auto)]
 
 ghost use Rattle.std.specs.Prelude.{◌≡◌};
+ghost use Rattle.script.specs.Lent.{columns_seen};
 ghost use Rattle.session.specs.Start.{fresh};
 ghost use Rattle.ledger.specs.Ledger.{entered_of};
-ghost use Rattle.script.specs.Columns.{columns};
-ghost use Rattle.harness_runs.specs.Running.{ended_by, run_left, run_call};
+ghost use Rattle.harness_runs.specs.Running.{ran_as, run_left, run_call};
 
+use inject::Injection;
 use landing::Stop;
-use ledger::Derived;
+use model::LedgerMut;
+use refusals::Refusal;
 use rows::rows_refusal;
-use script::Head;
-use session::{Armed, Counters};
+use script::{CallsRef, Head};
+use session::{Counters, LogMut, MarksMut};
 
 // How a run ended: the session's stop, the operations recorded, how many entries its ledger has, and whether the writer returned an
-// error; or the number that refuses the run.
-#[derive(Clone, Copy)]
-pub enum Ran {
-    Ended(Stop, usize, usize, bool),
-    NotRun(u32),
+// error.
+#[derive(Clone, Copy, Debug, PartialEq, Eq)]
+pub struct Run {
+    pub stop: Stop,
+    pub operations: usize,
+    pub entries: usize,
+    pub failed: bool,
 }
 
 // A session before any call.
@@ -37,31 +41,14 @@ fn unstarted() -> Counters
     }
 }
 
-// How a run ended whose ledger was derived.
-fn ended(counters: Counters, failed: bool, derived: Derived) -> Ran
-    ensures { result ≡ ended_by counters failed derived }
-{
-    match derived {
-        Derived::Entries(count) => {
-            let stop = counters.stop;
-            Ran::Ended(stop, counters.operations, count, failed)
-        }
-        Derived::NotDerived(number) => Ran::NotRun(number),
-    }
-}
-
-// The script's run with what is armed, on a new device's media, and its ledger. Leaves the media, the operations recorded and the
+// The script's run with what is armed, on a new device's media, and its ledger. (The arrays are lent one by one: out of a lent
+// struct the prover lends no two.) Leaves the media, the operations recorded and the
 // ledger's entries.
 pub fn run_one(
     head: Head,
-    armed: Armed,
+    armed: Option<Injection>,
     rows: usize,
-    kinds: &[u8],
-    firsts: &[u32],
-    seconds: &[u32],
-    thirds: &[u32],
-    starts: &[u32],
-    pool: &[u8],
+    calls: &CallsRef<'_>,
     media: &mut [u8],
     copy: &mut [u8],
     ops: &mut [u8; 1024],
@@ -70,31 +57,20 @@ pub fn run_one(
     ids: &mut [u32; 512],
     states: &mut [u8; 512],
     torn: &mut [u8; 512],
-) -> Ran
-    ensures { run_left result media.new copy.new ops.new spans.new sizes.new (entered_of ids.new states.new torn.new) ≡ run_call head armed rows (columns kinds.now firsts.now seconds.now thirds.now starts.now pool.now) media.old copy.old ops.old spans.old sizes.old (entered_of ids.old states.old torn.old) }
+) -> Result<Run, Refusal>
+    ensures { run_left (ran_as result) media.new copy.new ops.new spans.new sizes.new (entered_of ids.new states.new torn.new) ≡ run_call head armed rows (columns_seen calls.now) media.old copy.old ops.old spans.old sizes.old (entered_of ids.old states.old torn.old) }
 {
-    let geometry = head.geometry;
-    let refused = rows_refusal(
-        geometry,
+    rows_refusal(
+        head.geometry,
         media.len(),
         copy.len(),
         false,
         false,
         5,
         rows,
-        kinds,
-        firsts,
-        seconds,
-        thirds,
-        starts,
-        pool,
-    );
-    if refused != 0 {
-        return Ran::NotRun(refused);
-    }
+        calls,
+    )?;
     let told = armed_runs::told_by(head, armed);
-    let carries = head.carries_on;
-    let begun = unstarted();
     device::fill_erased(media);
     let mut unasked = [0u32; 1];
     let mut digests = [0u64; 1024];
@@ -103,35 +79,38 @@ pub fn run_one(
     let mut marks = [0u8; 512];
     let mut named = [0u32; 512];
     let mut places = [0u64; 512];
-    let written = runner::run_rows(
+    let mut log = LogMut {
+        kinds: ops,
+        offsets: spans,
+        lens: sizes,
+        digests: &mut digests,
+        changed: &mut changed,
+        answered: &mut answered,
+    };
+    let mut record_marks = MarksMut {
+        codes: &mut marks,
+        ids: &mut named,
+        places: &mut places,
+    };
+    let mut ledger = LedgerMut { ids, states, torn };
+    let (ended, derived) = runner::run_ledgered(
         told,
-        carries,
-        begun,
+        head.carries_on,
+        unstarted(),
         rows,
-        kinds,
-        firsts,
-        seconds,
-        thirds,
-        starts,
-        pool,
+        calls,
         &mut unasked,
         media,
         copy,
-        ops,
-        spans,
-        sizes,
-        &mut digests,
-        &mut changed,
-        &mut answered,
-        &mut marks,
-        &mut named,
-        &mut places,
+        &mut log,
+        &mut record_marks,
+        &mut ledger,
     );
-    let counters = written.counters;
-    let failed = written.failed;
-    let derived = runner::derive(
-        told, counters, media, copy, ops, spans, sizes, &digests, &changed, &answered, &marks,
-        &named, &places, ids, states, torn,
-    );
-    ended(counters, failed, derived)
+    let entries = derived?;
+    Ok(Run {
+        stop: ended.counters.stop,
+        operations: ended.counters.operations,
+        entries,
+        failed: ended.failed,
+    })
 }

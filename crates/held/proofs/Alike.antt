@@ -1,23 +1,32 @@
 -- Two lists compared, and the rows of columns.
 --     same_row, same-differ, same_next   at two places, one pair more
 --     same_out, same-lengths             past the ends; of lists that are not as long
---     op-barriers, op-rows               two rows compared
---     ops-unequal, ops-differ, ops-next, ops-out   three columns compared with three, row by row
+--     same-pointwise                     as `==` compares them
+--     op-true, op_self, op-other         two operations that are alike are one
+--     mark-true, mark-self, mark-other, mark-equal   and two marks
+--     through-length, ops-unequal, ops-differ, ops-next, ops-out   two runs' operations compared, row by row
 -- Assumes nothing.
 use mathlib.Core.Path.{◌≡◌, refl, sym, ap, ◌∙◌}
-use mathlib.Core.Bool.{Bool, true, false, not, ◌&&◌, true≢false}
+use mathlib.Core.Bool.{Bool, true, false, ◌&&◌, true≢false}
 use mathlib.Core.List.{List, [], ◌∷◌}
 use Prim.Native.Nat.{ℕ, zero, suc, ◌+◌, ◌≤◌, ◌<◌}
 use native.Mathlib.Nat.{not-suc-le-zero, le_of_suc-le-suc, suc-ne-zero, suc_inj}
 use native.Mathlib.Omega.{arith}
-use lib.ListN.{length, drop, get_or}
-use lib.Dec.{eqb, leb, ltb}
-use borrow.Author.Tests.{eq-eqb, ne_eqb, leb-true, ltb-true, le-leb, not-true, not-false}
+use lib.Dec.{eqb}
+use lib.ListN.{length, take, drop, get_or, length-take}
+use lib.Seq.{length-take-le}
+use lib.Pointwise.{pointwise}
+use borrow.Author.Tests.{eq-eqb, eqb-true}
+use Rattle.std.specs.Prelude.{Option, Some, None}
+use Rattle.std.proofs.lemmas.List.{get_or-take}
 use Rattle.basics.proofs.Scans.{at-step, at-end}
 use Rattle.inject.specs.declared.Op.{Op}
-use Rattle.inject.specs.declared.Op.TheVariants.{Barrier}
+use Rattle.inject.specs.declared.Op.TheVariants.{Program, Erase, Barrier}
 use Rattle.inject.specs.Ops.{op_of, ops_of}
-use Rattle.held.specs.Held.{same, same_op}
+use Rattle.records.specs.Records.{Label, begin, end, RecordMark}
+use Rattle.held.specs.declared.Mark.{Mark}
+use Rattle.held.specs.Held.{Recorded, same, same_op, same_label, same_mark, end_of, ops_through}
+use Rattle.held.specs.Scans.{label_as, marked_as, Fits}
 
 -- ---- two lists
 
@@ -44,12 +53,6 @@ pub both : (a b : Bool) → (a && b) ≡ true → (a ≡ true) × (b ≡ true)
 both true b e = (refl, e)
 both false b e = absurd (true≢false (sym e))
 
--- two numbers below their limits, as a loop tests them
-pub both_below : (i m j n : ℕ) → (ltb i m && ltb j n) ≡ true → (i < m) × (j < n)
-both_below i m j n t =
-    let b = both (ltb i m) (ltb j n) t in
-    (ltb-true i m b.0, ltb-true j n b.1)
-
 and-false : (b : Bool) → (b && false) ≡ false
 and-false true = refl
 and-false false = refl
@@ -61,6 +64,14 @@ same-lengths f [] (y ∷ ys) n = refl
 same-lengths f (x ∷ xs) [] n = refl
 same-lengths f (x ∷ xs) (y ∷ ys) n =
     sym (ap (λ (b : Bool). f x y && b) (sym (same-lengths f xs ys (λ q. n (ap suc q)))) ∙ and-false (f x y))
+
+-- `==` of two slices
+pub same-pointwise : {A : Type 0} (f : A → A → Bool) (xs ys : List A) → pointwise f xs ys ≡ same f xs ys
+unfolding same
+same-pointwise f [] [] = refl
+same-pointwise f [] (y ∷ ys) = refl
+same-pointwise f (x ∷ xs) [] = refl
+same-pointwise f (x ∷ xs) (y ∷ ys) = ap (λ (b : Bool). f x y && b) (same-pointwise f xs ys)
 
 -- ---- operations
 
@@ -80,89 +91,127 @@ ops-at (k ∷ ks) (o ∷ os) [] i p q h = absurd (suc-ne-zero (length ks) (sym q
 ops-at (k ∷ ks) (o ∷ os) (l ∷ ls) zero p q h = refl
 ops-at (k ∷ ks) (o ∷ os) (l ∷ ls) (suc i) p q h = ops-at ks os ls i (suc_inj p) (suc_inj q) (le_of_suc-le-suc h)
 
-abbrev Row : (k o l k2 o2 l2 : ℕ) → Bool
-Row k o l k2 o2 l2 = same_op (op_of k o l) (op_of k2 o2 l2)
+-- ---- two operations, two marks
 
--- a kind above 1 is a barrier
-barrier-row : (k o l : ℕ) → 2 ≤ k → op_of k o l ≡ Barrier
-barrier-row k o l h = rw (ne_eqb k 0 (λ q. omega arith), ne_eqb k 1 (λ q. omega arith))
-
-barriers : (k o l k2 o2 l2 : ℕ) → 2 ≤ k → 2 ≤ k2 → true ≡ Row k o l k2 o2 l2
+pub op-true : (a b : Op) → same_op a b ≡ true → a ≡ b
 unfolding same_op
-barriers k o l k2 o2 l2 h i = rw (barrier-row k o l h, barrier-row k2 o2 l2 i)
+op-true (Program a m) (Program b n) e =
+    let t = both (eqb a b) (eqb m n) e in
+    ap (λ (x : ℕ). Program x m) (eqb-true a b t.0) ∙ ap (λ (x : ℕ). Program b x) (eqb-true m n t.1)
+op-true (Program a m) (Erase b n) e = absurd (true≢false (sym e))
+op-true (Program a m) Barrier e = absurd (true≢false (sym e))
+op-true (Erase a m) (Program b n) e = absurd (true≢false (sym e))
+op-true (Erase a m) (Erase b n) e =
+    let t = both (eqb a b) (eqb m n) e in
+    ap (λ (x : ℕ). Erase x m) (eqb-true a b t.0) ∙ ap (λ (x : ℕ). Erase b x) (eqb-true m n t.1)
+op-true (Erase a m) Barrier e = absurd (true≢false (sym e))
+op-true Barrier (Program b n) e = absurd (true≢false (sym e))
+op-true Barrier (Erase b n) e = absurd (true≢false (sym e))
+op-true Barrier Barrier e = refl
 
--- of rows that are not both barriers, kind and span
-rows : (k o l k2 o2 l2 : ℕ) → (2 ≤ k → 2 ≤ k2 → ⊥) → (eqb k k2 && eqb o o2 && eqb l l2) ≡ Row k o l k2 o2 l2
+pub op_self : (a : Op) → same_op a a ≡ true
 unfolding same_op
-rows zero o l zero o2 l2 n = refl
-rows zero o l (suc zero) o2 l2 n = refl
-rows zero o l (suc (suc k)) o2 l2 n = rw (barrier-row (suc (suc k)) o2 l2 (omega arith), ne_eqb 0 (suc (suc k)) (λ q. omega arith))
-rows (suc zero) o l zero o2 l2 n = refl
-rows (suc zero) o l (suc zero) o2 l2 n = refl
-rows (suc zero) o l (suc (suc k)) o2 l2 n = rw (barrier-row (suc (suc k)) o2 l2 (omega arith), ne_eqb 1 (suc (suc k)) (λ q. omega arith))
-rows (suc (suc k)) o l zero o2 l2 n = rw (barrier-row (suc (suc k)) o l (omega arith), ne_eqb (suc (suc k)) 0 (λ q. omega arith))
-rows (suc (suc k)) o l (suc zero) o2 l2 n = rw (barrier-row (suc (suc k)) o l (omega arith), ne_eqb (suc (suc k)) 1 (λ q. omega arith))
-rows (suc (suc k)) o l (suc (suc k2)) o2 l2 n = absurd (n (omega arith) (omega arith))
+op_self (Program a m) = simp (eq-eqb a a refl, eq-eqb m m refl)
+op_self (Erase a m) = simp (eq-eqb a a refl, eq-eqb m m refl)
+op_self Barrier = refl
 
-module _ (k o l k2 o2 l2 : ℕ) where
-  pub op-barriers : (leb 2 k && leb 2 k2) ≡ true → true ≡ Row k o l k2 o2 l2
-  op-barriers t =
-      let b = both (leb 2 k) (leb 2 k2) t in
-      barriers k o l k2 o2 l2 (leb-true 2 k b.0) (leb-true 2 k2 b.1)
+label-true : (a b : Label) → same_label a b ≡ true → a ≡ b
+unfolding same_label
+label-true (begin i) (begin k) e = ap begin (eqb-true i k e)
+label-true (begin i) end e = absurd (true≢false (sym e))
+label-true end (begin k) e = absurd (true≢false (sym e))
+label-true end end e = refl
 
-  pub op-rows : (leb 2 k && leb 2 k2) ≡ false → (eqb k k2 && eqb o o2 && eqb l l2) ≡ Row k o l k2 o2 l2
-  op-rows f = rows k o l k2 o2 l2 (λ h i. true≢false (sym (ap2 h i) ∙ f))
-    where
-      ap2 : 2 ≤ k → 2 ≤ k2 → (leb 2 k && leb 2 k2) ≡ true
-      ap2 h i = simp (le-leb 2 k h, le-leb 2 k2 i)
+label-self : (a : Label) → same_label a a ≡ true
+unfolding same_label
+label-self (begin i) = eq-eqb i i refl
+label-self end = refl
 
--- ---- columns of operations, as a loop compares them
+pub mark-true : (a b : RecordMark) → same_mark a b ≡ true → a ≡ b
+mark-true a b e =
+    let t = both (same_label a.label b.label) (eqb a.place b.place) e in
+    let l = label-true a.label b.label t.0 in
+    let p = eqb-true a.place b.place t.1 in
+    λ q. record { label = l q; place = p q }
 
-module _ (ks os ls ks2 os2 ls2 : List ℕ)
-    (p : (length os ≡ length ks) × (length ls ≡ length ks) × (length os2 ≡ length ks2) × (length ls2 ≡ length ks2)) where
+pub mark-self : (a : RecordMark) → same_mark a a ≡ true
+mark-self a = simp (label-self a.label, eq-eqb a.place a.place refl)
+
+not-true : (b : Bool) → (b ≡ true → ⊥) → b ≡ false
+not-true true n = absurd (n refl)
+not-true false n = refl
+
+pub op-other : (a b : Op) → (a ≡ b → ⊥) → same_op a b ≡ false
+op-other a b n = not-true (same_op a b) (λ t. n (op-true a b t))
+
+-- two marks as they are read
+label-one : (i j : Option ℕ) → label_as i ≡ label_as j → i ≡ j
+label-one None None e = refl
+label-one None (Some j) e = let z : end ≡ begin j = e in cc
+label-one (Some i) None e = let z : begin i ≡ end = e in cc
+label-one (Some i) (Some j) e = let z : begin i ≡ begin j = e in cc
+
+marked-one : (x y : Mark) → marked_as x ≡ marked_as y → x ≡ y
+marked-one x y e =
+    let i = label-one x.id y.id (ap (λ (m : RecordMark). m.label) e) in
+    let p = ap (λ (m : RecordMark). m.place) e in
+    λ q. record { id = i q; place = p q }
+
+pub mark-other : (x y : Mark) → (x ≡ y → ⊥) → same_mark (marked_as x) (marked_as y) ≡ false
+mark-other x y n = not-true (same_mark (marked_as x) (marked_as y)) (λ t. n (marked-one x y (mark-true (marked_as x) (marked_as y) t)))
+
+pub mark-equal : (x y : Mark) → x ≡ y → same_mark (marked_as x) (marked_as y) ≡ true
+mark-equal x y e = ap (λ (z : Mark). same_mark (marked_as x) (marked_as z)) (sym e) ∙ mark-self (marked_as x)
+
+-- ---- two runs' operations, as a loop compares them
+
+module _ (t : ℕ) (x : Recorded) (w : Fits x) where
+  within : end_of t x ≤ length x.kinds
+  within = omega (arith, w.operations)
+
+  -- a column as far as it is compared
+  cut : (xs : List ℕ) → length xs ≡ length x.kinds → length (take (end_of t x) xs) ≡ length (take (end_of t x) x.kinds)
+  cut xs e = simp (length-take, e)
+
+  kinds-length : length (take (end_of t x) x.kinds) ≡ end_of t x
+  kinds-length = length-take-le (end_of t x) x.kinds within
+
+  pub through-length : length (ops_through t x) ≡ end_of t x
+  through-length = ops-length _ _ _ (cut x.offsets w.offsets) (cut x.lens w.lens) ∙ kinds-length
+
+  through-at : (i : ℕ) → i < end_of t x → get_or (ops_through t x) i Barrier ≡ op_of (get_or x.kinds i 0) (get_or x.offsets i 0) (get_or x.lens i 0)
+  through-at i h =
+      let n : ℕ = end_of t x in
+      ops-at (take n x.kinds) (take n x.offsets) (take n x.lens) i (cut x.offsets w.offsets) (cut x.lens w.lens) (rw kinds-length h)
+      ∙ (λ q. op_of (get_or-take n x.kinds i 0 h q) (get_or-take n x.offsets i 0 h q) (get_or-take n x.lens i 0 h q))
+
+module _ (t : ℕ) (f r : Recorded) (w : Fits f × Fits r) where
   abbrev first : List Op
-  first = ops_of ks os ls
+  first = ops_through t f
 
   abbrev second : List Op
-  second = ops_of ks2 os2 ls2
+  second = ops_through t r
 
-  first-length : length first ≡ length ks
-  first-length = ops-length ks os ls p.0 p.1
+  pub ops-unequal : (end_of t f ≡ end_of t r → ⊥) → false ≡ same same_op first second
+  ops-unequal n = same-lengths same_op first second (λ q. n (sym (through-length t f w.0) ∙ q ∙ through-length t r w.1))
 
-  second-length : length second ≡ length ks2
-  second-length = ops-length ks2 os2 ls2 p.2 p.3
+  module _ (q : end_of t f ≡ end_of t r) (i : ℕ) (e : same same_op first second ≡ same same_op (drop i first) (drop i second)) where
+    pub ops-out : end_of t f ≤ i → true ≡ same same_op first second
+    ops-out h = same_out same_op first second i i (same same_op first second) e (rw (through-length t f w.0) h) (rw (through-length t r w.1) (rw (← q) h))
 
-  pub ops-unequal : (length ks ≡ length ks2 → ⊥) → false ≡ same same_op first second
-  ops-unequal n = same-lengths same_op first second (λ q. n (sym first-length ∙ q ∙ second-length))
+    module _ (h : i < end_of t f) (x y : Op) (p : x ≡ op_of (get_or f.kinds i 0) (get_or f.offsets i 0) (get_or f.lens i 0))
+        (o : y ≡ op_of (get_or r.kinds i 0) (get_or r.offsets i 0) (get_or r.lens i 0)) where
+      k : i < end_of t r
+      k = rw (← q) h
 
-  module _ (q : length ks ≡ length ks2) (i : ℕ) (e : same same_op first second ≡ same same_op (drop i first) (drop i second)) where
-    pub ops-out : length ks ≤ i → true ≡ same same_op first second
-    ops-out h = same_out same_op first second i i (same same_op first second) e (rw first-length h) (rw second-length (rw (← q) h))
+      pair : same_op x y ≡ same_op (get_or first i Barrier) (get_or second i Barrier)
+      pair = λ z. same_op ((p ∙ sym (through-at t f w.0 i h)) z) ((o ∙ sym (through-at t r w.1 i k)) z)
 
-    module _ (h : i < length ks) (b : Bool) (r : b ≡ Row (get_or ks i 0) (get_or os i 0) (get_or ls i 0) (get_or ks2 i 0) (get_or os2 i 0) (get_or ls2 i 0)) where
-      k : i < length ks2
-      k = omega (arith, q)
-
-      pair : b ≡ same_op (get_or first i Barrier) (get_or second i Barrier)
-      pair = r ∙ sym (rw (ops-at ks os ls i p.0 p.1 h, ops-at ks2 os2 ls2 i p.2 p.3 k))
-
-      pub ops-differ : not b ≡ true → false ≡ same same_op first second
+      pub ops-differ : (x ≡ y → ⊥) → false ≡ same same_op first second
       ops-differ n =
-          same-differ same_op first second i i (same same_op first second) e Barrier (rw first-length h) (rw second-length k) b pair (not-true b n)
+          same-differ same_op first second i i (same same_op first second) e Barrier (rw (through-length t f w.0) h) (rw (through-length t r w.1) k) (same_op x y) pair (op-other x y n)
 
-      pub ops-next : not b ≡ false → same same_op first second ≡ same same_op (drop (i + 1) first) (drop (i + 1) second)
-      ops-next n =
-          same_next same_op first second i i (same same_op first second) e Barrier (rw first-length h) (rw second-length k) b pair (not-false b n)
-
--- ---- digests
-
-module _ (xs ys : List ℕ) (q : length xs ≡ length ys) (i : ℕ) (e : same eqb xs ys ≡ same eqb (drop i xs) (drop i ys)) where
-  pub digests-out : length xs ≤ i → true ≡ same eqb xs ys
-  digests-out h = same_out eqb xs ys i i (same eqb xs ys) e h (rw (← q) h)
-
-  module _ (h : i < length xs) where
-    pub digests-differ : (get_or xs i 0 ≡ get_or ys i 0 → ⊥) → false ≡ same eqb xs ys
-    digests-differ n = same-differ eqb xs ys i i (same eqb xs ys) e 0 h (rw (← q) h) (eqb (get_or xs i 0) (get_or ys i 0)) refl (ne_eqb _ _ n)
-
-    pub digests-next : get_or xs i 0 ≡ get_or ys i 0 → same eqb xs ys ≡ same eqb (drop (i + 1) xs) (drop (i + 1) ys)
-    digests-next y = same_next eqb xs ys i i (same eqb xs ys) e 0 h (rw (← q) h) (eqb (get_or xs i 0) (get_or ys i 0)) refl (eq-eqb _ _ y)
+      pub ops-next : x ≡ y → same same_op first second ≡ same same_op (drop (i + 1) first) (drop (i + 1) second)
+      ops-next y-is =
+          same_next same_op first second i i (same same_op first second) e Barrier (rw (through-length t f w.0) h) (rw (through-length t r w.1) k) (same_op x y) pair
+          (ap (λ (z : Op). same_op x z) (sym y-is) ∙ op_self x)

@@ -10,15 +10,13 @@ use mathlib.Core.List.{List, [], ◌∷◌}
 use Prim.Native.Nat.{ℕ}
 use lib.Dec.{eqb}
 use borrow.Author.Tests.{eq-eqb, ne_eqb, eqb-true, eqb-false}
+use Rattle.std.specs.Prelude.{Ok, Err}
 use Rattle.basics.specs.Tests.{first_of}
 use Rattle.basics.proofs.Tests.{first_of-pass, first_of-stop, first_of-one}
-use Rattle.inject.specs.declared.Op.{Op}
-use Rattle.inject.specs.declared.Op.TheVariants.{Program, Erase, Barrier}
 use Rattle.inject.specs.declared.Injection.{Injection}
-use Rattle.records.specs.Records.{Label, begin, end, RecordMark}
-use Rattle.held.specs.declared.Held.TheVariants.{Relabelled, NotHeld}
-use Rattle.held.specs.Held.{Recorded, is_relabelled, same, same_op, same_label, same_mark, ops_through, digests_through, marks_through, same_through, held_number, held_test, number_of_held, kept_unless, held_by, held_call}
-use Rattle.held.proofs.Alike.{both}
+use Rattle.held.specs.declared.Held.TheVariants.{Relabelled}
+use Rattle.held.specs.Held.{Recorded, is_relabelled, same, same_op, same_mark, ops_through, digests_through, marks_through, same_through, held_number, held_test, number_of_held, kept_unless, held_by, held_call}
+use Rattle.held.proofs.Alike.{both, op-true, op_self, mark-true, mark-self}
 
 -- ---- the number
 
@@ -43,7 +41,7 @@ module _ (j : Injection) (f r : Recorded) where
   unfolding held_call
   unrefused z = simp (eq-eqb (held_test f r) 0 z)
 
-  refused : (held_test f r ≡ 0 → ⊥) → held_call j f r ≡ NotHeld (held_test f r)
+  refused : (held_test f r ≡ 0 → ⊥) → held_call j f r ≡ Err (held_test f r)
   unfolding held_call
   refused n = simp (ne_eqb (held_test f r) 0 n)
 
@@ -63,7 +61,7 @@ module _ (j : Injection) (f r : Recorded) where
     pub given-alone : number_of_held (held_call j f r) ≡ held_number j f r
     given-alone = ap number_of_held (unrefused z) ∙ number_by relabelled refl
 
-    pub never-refused : relabelled ≡ true → held_call j f r ≡ Relabelled
+    pub never-refused : relabelled ≡ true → held_call j f r ≡ Ok Relabelled
     never-refused e = unrefused z ∙ rw e
 
 -- ---- two lists that are alike are equal
@@ -82,50 +80,6 @@ module _ {A : Type 0} (f : A → A → Bool) where
   unfolding same
   same_self h [] = refl
   same_self h (x ∷ xs) = rw (h x, same_self h xs)
-
-op-true : (a b : Op) → same_op a b ≡ true → a ≡ b
-unfolding same_op
-op-true (Program a m) (Program b n) e =
-    let t = both (eqb a b) (eqb m n) e in
-    ap (λ (x : ℕ). Program x m) (eqb-true a b t.0) ∙ ap (λ (x : ℕ). Program b x) (eqb-true m n t.1)
-op-true (Program a m) (Erase b n) e = absurd (true≢false (sym e))
-op-true (Program a m) Barrier e = absurd (true≢false (sym e))
-op-true (Erase a m) (Program b n) e = absurd (true≢false (sym e))
-op-true (Erase a m) (Erase b n) e =
-    let t = both (eqb a b) (eqb m n) e in
-    ap (λ (x : ℕ). Erase x m) (eqb-true a b t.0) ∙ ap (λ (x : ℕ). Erase b x) (eqb-true m n t.1)
-op-true (Erase a m) Barrier e = absurd (true≢false (sym e))
-op-true Barrier (Program b n) e = absurd (true≢false (sym e))
-op-true Barrier (Erase b n) e = absurd (true≢false (sym e))
-op-true Barrier Barrier e = refl
-
-op_self : (a : Op) → same_op a a ≡ true
-unfolding same_op
-op_self (Program a m) = simp (eq-eqb a a refl, eq-eqb m m refl)
-op_self (Erase a m) = simp (eq-eqb a a refl, eq-eqb m m refl)
-op_self Barrier = refl
-
-label-true : (a b : Label) → same_label a b ≡ true → a ≡ b
-unfolding same_label
-label-true (begin i) (begin k) e = ap begin (eqb-true i k e)
-label-true (begin i) end e = absurd (true≢false (sym e))
-label-true end (begin k) e = absurd (true≢false (sym e))
-label-true end end e = refl
-
-label-self : (a : Label) → same_label a a ≡ true
-unfolding same_label
-label-self (begin i) = eq-eqb i i refl
-label-self end = refl
-
-mark-true : (a b : RecordMark) → same_mark a b ≡ true → a ≡ b
-mark-true a b e =
-    let t = both (same_label a.label b.label) (eqb a.place b.place) e in
-    let l = label-true a.label b.label t.0 in
-    let p = eqb-true a.place b.place t.1 in
-    λ q. record { label = l q; place = p q }
-
-mark-self : (a : RecordMark) → same_mark a a ≡ true
-mark-self a = simp (label-self a.label, eq-eqb a.place a.place refl)
 
 module _ (through : ℕ) (f r : Recorded) where
   pub alike-equal : same_through through f r ≡ true

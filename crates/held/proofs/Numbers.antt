@@ -1,78 +1,58 @@
 -- The columns' tests: from the code's branches to the number, and from 0 back to what holds.
---     columns-twelve, columns-thirteen, columns-none   one run's columns
---     lowest-first, lowest-second, lowest-lower        the lower of two numbers
---     columns-fit, lowest-none                         what an unrefused call knows
+--     twelve, thirteen, none     the number of two runs' columns
+--     lowest-none, columns-fit   what an unrefused call knows
 -- Assumes nothing.
-use mathlib.Core.Path.{◌≡◌, refl, sym, ap, ◌∙◌}
-use mathlib.Core.Bool.{Bool, true, false, not, ◌&&◌, ◌||◌, true≢false}
-use mathlib.Core.List.{[], ◌∷◌}
+use mathlib.Core.Path.{◌≡◌, refl, sym, ap₂, ◌∙◌}
+use mathlib.Core.Bool.{Bool, true, false, not, ◌||◌}
+use mathlib.Core.List.{[]}
 use Prim.Native.Nat.{ℕ, zero, suc, min}
 use native.Mathlib.Nat.{suc-ne-zero}
 use native.Mathlib.Omega.{arith}
-use lib.ListN.{length, take}
+use lib.ListN.{length}
 use lib.Dec.{eqb, ltb}
-use borrow.Author.Tests.{eq-eqb, ne_eqb, eqb-true, ltb-false, not-false}
-use Rattle.basics.specs.Tests.{unless, refuse_if, first_of}
+use borrow.Author.Tests.{ne_eqb, eqb-true, ltb-false, not-false}
+use Rattle.basics.specs.Tests.{unless, refuse_if}
 use Rattle.basics.proofs.Tests.{first_of-zero, refuse-zero}
 use Rattle.device.proofs.Pairs.{false_left, false_right}
-use Rattle.model.specs.Columns.{all_up_to}
 use Rattle.ledger.specs.Ledger.{counts_short}
-use Rattle.held.specs.Held.{Recorded, uneven_in, known_in, columns_test, lowest}
-use Rattle.held.specs.Scans.{Fits}
+use Rattle.ledger.proofs.Numbers.{test, tested}
+use Rattle.held.specs.Held.{Recorded, uneven_in, known_in, columns_test, lowest, held_test}
+use Rattle.held.specs.Scans.{malformed, short_in, Fits}
 
--- ---- one run
+-- ---- the number, by the two tests of each run
 
-tests : (uneven known short : Bool) → ℕ
-tests u k s = first_of (refuse_if u 12 ∷ unless k 12 ∷ refuse_if s 13 ∷ [])
+lowest_of : (m s n t : Bool) → lowest (test m s) (test n t) ≡ test (m || n) (s || t)
+unfolding test lowest
+lowest_of true s true t = refl
+lowest_of true s false true = refl
+lowest_of true s false false = refl
+lowest_of false true true t = refl
+lowest_of false true false true = refl
+lowest_of false true false false = refl
+lowest_of false false true t = refl
+lowest_of false false false true = refl
+lowest_of false false false false = refl
 
-by-twelve : (u k s : Bool) → (u || not k) ≡ true → 12 ≡ tests u k s
-unfolding tests first_of refuse_if unless
-by-twelve true k s e = refl
-by-twelve false false s e = refl
-by-twelve false true s e = absurd (true≢false (sym e))
+module _ (f r : Recorded) where
+  whole : held_test f r ≡ test (malformed f || malformed r) (short_in f || short_in r)
+  unfolding columns_test malformed short_in
+  whole =
+      ap₂ (λ (a b : ℕ). lowest a b) (tested (uneven_in f) (known_in f.counters f.kinds f.codes) (short_in f)) (tested (uneven_in r) (known_in r.counters r.kinds r.codes) (short_in r))
+      ∙ lowest_of (malformed f) (short_in f) (malformed r) (short_in r)
 
-by-short : (u k s : Bool) → (u || not k) ≡ false → refuse_if s 13 ≡ tests u k s
-unfolding tests first_of refuse_if unless
-by-short true k s e = absurd (true≢false e)
-by-short false false s e = absurd (true≢false e)
-by-short false true true e = refl
-by-short false true false e = refl
+  module _ (m n : Bool) (p : m ≡ malformed f) (q : n ≡ malformed r) where
+    pub twelve : (m || n) ≡ true → 12 ≡ held_test f r
+    unfolding test
+    twelve e = sym (whole ∙ rw (← p, ← q, e))
 
-module _ (x : Recorded) (u k m : Bool) (eu : u ≡ uneven_in x) (ek : k ≡ all_up_to 2 (take x.counters.operations x.kinds))
-    (em : m ≡ all_up_to 1 (take x.counters.marks x.codes)) where
-  abbrev short : Bool
-  short = counts_short x.counters (length x.kinds) (length x.codes)
+    module _ (e : (m || n) ≡ false) (s t : Bool) (u : s ≡ short_in f) (v : t ≡ short_in r) where
+      pub thirteen : (s || t) ≡ true → 13 ≡ held_test f r
+      unfolding test
+      thirteen y = sym (whole ∙ rw (← p, ← q, e, ← u, ← v, y))
 
-  whole : tests u (k && m) short ≡ columns_test x
-  unfolding tests columns_test
-  whole = rw (eu, ek, em)
-
-  pub columns-twelve : (u || not (k && m)) ≡ true → 12 ≡ columns_test x
-  columns-twelve e = by-twelve u (k && m) short e ∙ whole
-
-  module _ (e : (u || not (k && m)) ≡ false) (s : Bool) (q : s ≡ short) where
-    pub columns-thirteen : s ≡ true → 13 ≡ columns_test x
-    unfolding refuse_if
-    columns-thirteen t = ap (λ (b : Bool). refuse_if b 13) (sym t ∙ q) ∙ by-short u (k && m) short e ∙ whole
-
-    pub columns-none : s ≡ false → 0 ≡ columns_test x
-    unfolding refuse_if
-    columns-none f = ap (λ (b : Bool). refuse_if b 13) (sym f ∙ q) ∙ by-short u (k && m) short e ∙ whole
-
--- ---- of two
-
-pub lowest-first : (a b : ℕ) → a ≡ 0 → b ≡ lowest a b
-unfolding lowest
-lowest-first a b e = simp (eq-eqb a 0 e)
-
-module _ (a b : ℕ) (n : a ≡ 0 → ⊥) where
-  pub lowest-second : b ≡ 0 → a ≡ lowest a b
-  unfolding lowest
-  lowest-second e = simp (ne_eqb a 0 n, eq-eqb b 0 e)
-
-  pub lowest-lower : (b ≡ 0 → ⊥) → (r : ℕ) → r ≡ min a b → r ≡ lowest a b
-  unfolding lowest
-  lowest-lower k r e = e ∙ simp (ne_eqb a 0 n, ne_eqb b 0 k)
+      pub none : (s || t) ≡ false → 0 ≡ held_test f r
+      unfolding test
+      none y = sym (whole ∙ rw (← p, ← q, e, ← u, ← v, y))
 
 pub lowest-none : (a b : ℕ) → lowest a b ≡ 0 → (a ≡ 0) × (b ≡ 0)
 unfolding lowest

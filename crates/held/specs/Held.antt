@@ -1,6 +1,7 @@
 -- Document 01, "session.rs (974)": "A finished run is held to the fault-free run." Definitions only; assumes nothing.
-use Rattle.std.specs.Prelude.{Bool, true, false, not, ◌&&◌, ◌||◌, cond, List, [], ◌∷◌, ℕ, suc, min, length, take, eqb, ltb}
+use Rattle.std.specs.Prelude.{Bool, true, false, not, ◌&&◌, ◌||◌, cond, List, [], ◌∷◌, ℕ, suc, min, length, take, eqb, ltb, Result, Ok, Err}
 use Rattle.basics.specs.Tests.{unless, refuse_if, first_of}
+use Rattle.basics.specs.Replies.{number_in, answered}
 use Rattle.inject.specs.declared.Op.{Op}
 use Rattle.inject.specs.declared.Op.TheVariants.{Program, Erase, Barrier}
 use Rattle.inject.specs.declared.Progress.{Progress}
@@ -17,7 +18,8 @@ use Rattle.session.specs.Tests.{marks_uneven}
 use Rattle.records.specs.Records.{Label, begin, end, RecordMark}
 use Rattle.ledger.specs.Ledger.{marks_listed, counts_short}
 use Rattle.held.specs.declared.Held.{Held}
-use Rattle.held.specs.declared.Held.TheVariants.{Relabelled, Kept, NotHeld}
+use Rattle.held.specs.declared.Held.TheVariants.{Relabelled, Kept}
+use Rattle.held.specs.declared.Recorded.{Recorded as Lent}
 
 -- what of a run is asked: its counters, of the operations recorded the rows without change and answer, and the marks
 pub record Recorded : Type 0 where
@@ -32,6 +34,11 @@ pub record Recorded : Type 0 where
 
 abbrev pub recorded_of : Counters → (kinds offsets lens digests codes ids places : List ℕ) → Recorded
 recorded_of c k o l d m i p = record { counters = c; kinds = k; offsets = o; lens = l; digests = d; codes = m; ids = i; places = p }
+
+-- what is lent of a run
+abbrev pub recorded_in : Lent → Recorded
+recorded_in x =
+    recorded_of x.counters x.kinds.now x.offsets.now x.lens.now x.digests.now x.codes.now x.ids.now x.places.now
 
 -- ---- which injection it is
 
@@ -156,21 +163,19 @@ lowest a b = cond (eqb a 0) b (cond (eqb b 0) a (min a b))
 abbrev pub held_test : (f r : Recorded) → ℕ
 held_test f r = lowest (columns_test f) (columns_test r)
 
--- ---- what `held_to` answers
+-- ---- what `held_to` answers: what is given of a run, or the number that refuses it
 
 -- "Where an answer is an enum, a definition gives this paper's number and values for each of its cases."
-abbrev pub number_of_held : Held → ℕ
-number_of_held Relabelled = 0
-number_of_held Kept = 0
-number_of_held (NotHeld number) = number
+abbrev pub number_of_held : Result Held ℕ → ℕ
+number_of_held r = number_in (λ n. n) r
 
-abbrev pub kept_unless : (number : ℕ) → Held
-kept_unless number = cond (eqb number 0) Kept (NotHeld number)
+abbrev pub kept_unless : (number : ℕ) → Result Held ℕ
+kept_unless number = answered number Kept
 
 -- a run over columns that are not refused
-abbrev pub held_by : Injection → (f r : Recorded) → Held
-held_by j f r = cond (is_relabelled j f.counters.operations) Relabelled (kept_unless (held_number j f r))
+abbrev pub held_by : Injection → (f r : Recorded) → Result Held ℕ
+held_by j f r = cond (is_relabelled j f.counters.operations) (Ok Relabelled) (kept_unless (held_number j f r))
 
 -- the columns' test first; "25, 26: as above, no run given."
-unfoldable pub held_call : Injection → (f r : Recorded) → Held
-held_call j f r = cond (eqb (held_test f r) 0) (held_by j f r) (NotHeld (held_test f r))
+unfoldable pub held_call : Injection → (f r : Recorded) → Result Held ℕ
+held_call j f r = cond (eqb (held_test f r) 0) (held_by j f r) (Err (held_test f r))

@@ -5,398 +5,226 @@
 // input: columns are tested first (12, 13).
 #![tactic(auto)]
 
-ghost use Rattle.std.specs.Prelude.{◌≡◌, suc, ◌+◌, ◌≤◌, min, length, take, drop, eqb};
-ghost use Rattle.inject.specs.Ops.{op_of, ops_of};
-ghost use Rattle.model.specs.Columns.{all_up_to};
-ghost use Rattle.ledger.specs.Ledger.{marks_from, counts_short};
-ghost use Rattle.held.specs.Held.{recorded_of, is_watchdog, is_power_loss, is_none, is_relabelled, is_opening, same, same_op, same_mark, below, same_through, columns_uneven, columns_test, lowest, held_call};
-ghost use Rattle.held.specs.Scans.{skipped, Fits, mark_of};
+ghost use Rattle.std.specs.Prelude.{◌≡◌, suc, ◌<◌, ◌≤◌, length, take, get_or, eqb};
+ghost use Rattle.basics.specs.Replies.{number_in, numbered};
+ghost use Rattle.refusals.specs.Numbers.{number_of};
+ghost use Rattle.inject.specs.Ops.{op_of};
+ghost use Rattle.held.specs.Held.{recorded_in, is_relabelled, is_opening, same, same_op, same_mark, end_of, ops_through, digests_through, marks_through, same_through, held_test, held_call};
+ghost use Rattle.held.specs.Scans.{malformed, short_in, mark_of, marked_as, next_below, Fits};
 
-use inject::{Injection, Interruption, Progress};
-use model::all_up_to;
-use session::{Counters, MARKS, OPERATIONS};
+use inject::{Injection, Interruption, Op, Progress};
+use refusals::Refusal;
+use session::Counters;
 
-// What is given of a run: the fault-free one relabelled, the run itself, or none, with document 01's number.
-#[derive(Clone, Copy)]
+// What is given of a run: the fault-free one relabelled, or the run itself.
+#[derive(Clone, Copy, Debug, PartialEq, Eq)]
 pub enum Held {
     Relabelled,
     Kept,
-    NotHeld(u32),
 }
 
-// ---- the columns' tests
-
-// Whether the columns of one list are unequal.
-fn columns_uneven(
-    kinds: usize,
-    offsets: usize,
-    lens: usize,
-    digests: usize,
-    codes: usize,
-    ids: usize,
-    places: usize,
-) -> bool
-    ensures { result ≡ columns_uneven kinds offsets lens digests codes ids places }
-{
-    let rows = (offsets != kinds) | (lens != kinds) | (digests != kinds);
-    rows | session_marks::marks_uneven(codes, ids, places)
+// What is asked of a run: its counters, of the operations recorded the columns without change and answer, and the marks.
+#[derive(Clone, Copy)]
+pub struct Recorded<'a> {
+    pub counters: Counters,
+    pub kinds: &'a [u8],
+    pub offsets: &'a [u32],
+    pub lens: &'a [u32],
+    pub digests: &'a [u64],
+    pub codes: &'a [u8],
+    pub ids: &'a [u32],
+    pub places: &'a [u64],
 }
 
-// Whether none of the first `count` codes is above `top`.
-fn known(codes: &[u8], count: usize, top: u8) -> bool
-    ensures { result ≡ all_up_to top (take count codes.now) }
-{
-    if count < codes.len() {
-        return all_up_to(&codes[..count], top);
+// A record mark: an end has no id.
+#[derive(Clone, Copy, PartialEq, Eq)]
+struct Mark {
+    id: Option<u32>,
+    place: u64,
+}
+
+impl Recorded<'_> {
+    // ---- the columns' tests
+
+    // Whether columns of one list are unequal, or hold a code without a meaning among those counted.
+    fn malformed(&self) -> bool
+        ensures { result ≡ malformed (recorded_in self.now) }
+    {
+        let rows = self.kinds.len();
+        let marks = self.codes.len();
+        let uneven_rows = (self.offsets.len() != rows)
+            | (self.lens.len() != rows)
+            | (self.digests.len() != rows);
+        let uneven_marks = (self.ids.len() != marks) | (self.places.len() != marks);
+        let kinds_known = ledger::known(self.kinds, self.counters.operations, 2);
+        let codes_known = ledger::known(self.codes, self.counters.marks, 1);
+        uneven_rows | uneven_marks | !(kinds_known & codes_known)
     }
-    all_up_to(codes, top)
-}
 
-// Whether the columns are shorter than the session's limits or its counts.
-fn counts_short(counters: Counters, kinds: usize, codes: usize) -> bool
-    ensures { result ≡ counts_short counters kinds codes }
-{
-    (kinds < OPERATIONS)
-        | (codes < MARKS)
-        | (kinds < counters.operations)
-        | (codes < counters.marks)
+    // Whether the columns are shorter than the session's limits or its counts.
+    fn short(&self) -> bool
+        ensures { result ≡ short_in (recorded_in self.now) }
+    {
+        ledger::counts_short(self.counters, self.kinds.len(), self.codes.len())
+    }
+
+    // ---- what has to be alike
+
+    // How many operations are compared: those through the armed one.
+    fn end_of(&self, op: usize) -> usize
+        ensures { result ≡ end_of (suc op) (recorded_in self.now) }
+    {
+        op.saturating_add(1).min(self.counters.operations)
+    }
+
+    // A barrier has no span.
+    fn op_at(&self, at: usize) -> Op
+        requires { (at < length self.now.kinds.now) × (at < length self.now.offsets.now) × (at < length self.now.lens.now) }
+        ensures { result ≡ op_of (get_or self.now.kinds.now at 0) (get_or self.now.offsets.now at 0) (get_or self.now.lens.now at 0) }
+    {
+        let offset = self.offsets[at];
+        let len = self.lens[at];
+        match self.kinds[at] {
+            0 => Op::Program { offset, len },
+            1 => Op::Erase { offset, len },
+            _ => Op::Barrier,
+        }
+    }
+
+    fn mark_at(&self, at: usize) -> Mark
+        requires { (at < length self.now.codes.now) × (at < length self.now.ids.now) × (at < length self.now.places.now) }
+        ensures { marked_as result ≡ mark_of (get_or self.now.codes.now at 0) (get_or self.now.ids.now at 0) (get_or self.now.places.now at 0) }
+    {
+        Mark {
+            id: (self.codes[at] == 1).then_some(self.ids[at]),
+            place: self.places[at],
+        }
+    }
 }
 
 // 12 for unequal columns or a code without a meaning among those counted, then 13 for columns that are too short.
-fn columns_refusal(
-    counters: Counters,
-    kinds: &[u8],
-    offsets: &[u32],
-    lens: &[u32],
-    digests: &[u64],
-    codes: &[u8],
-    ids: &[u32],
-    places: &[u64],
-) -> u32
-    ensures { result ≡ columns_test (recorded_of counters kinds.now offsets.now lens.now digests.now codes.now ids.now places.now) }
+fn columns_refusal(free: &Recorded<'_>, run: &Recorded<'_>) -> Result<(), Refusal>
+    ensures { number_in number_of result ≡ held_test (recorded_in free.now) (recorded_in run.now) }
 {
-    let uneven = columns_uneven(
-        kinds.len(),
-        offsets.len(),
-        lens.len(),
-        digests.len(),
-        codes.len(),
-        ids.len(),
-        places.len(),
-    );
-    let kinds_known = known(kinds, counters.operations, 2);
-    let codes_known = known(codes, counters.marks, 1);
-    if uneven | !(kinds_known & codes_known) {
-        return 12;
+    if free.malformed() | run.malformed() {
+        return Err(Refusal::MalformedColumns);
     }
-    if counts_short(counters, kinds.len(), codes.len()) {
-        13
-    } else {
-        0
+    if free.short() | run.short() {
+        return Err(Refusal::ColumnsTooShort);
     }
-}
-
-// The lower of two numbers, 0 being none.
-fn lowest(a: u32, b: u32) -> u32
-    ensures { result ≡ lowest a b }
-{
-    if a == 0 {
-        return b;
-    }
-    if b == 0 {
-        return a;
-    }
-    if a < b { a } else { b }
+    Ok(())
 }
 
 // ---- which injection it is
-
-fn is_watchdog(interruption: Interruption) -> bool
-    ensures { result ≡ is_watchdog interruption }
-{
-    match interruption {
-        Interruption::PowerLoss => false,
-        Interruption::Watchdog => true,
-        Interruption::Failure => false,
-    }
-}
-
-fn is_power_loss(interruption: Interruption) -> bool
-    ensures { result ≡ is_power_loss interruption }
-{
-    match interruption {
-        Interruption::PowerLoss => true,
-        Interruption::Watchdog => false,
-        Interruption::Failure => false,
-    }
-}
-
-fn is_none(progress: Progress) -> bool
-    ensures { result ≡ is_none progress }
-{
-    match progress {
-        Progress::None => true,
-        Progress::Bytes(_) => false,
-        Progress::Whole => false,
-    }
-}
 
 // A watchdog reset after the last operation: a count of 0 is none here, as it is to a barrier.
 fn is_terminal(injection: Injection, operations: usize) -> bool
     ensures { result ≡ is_relabelled injection operations }
 {
-    let interruption = injection.interruption;
-    let progress = injection.progress;
-    let op = injection.op;
-    let reset = is_watchdog(interruption);
-    let none = !landing::barrier_ran(progress);
-    reset & none & (op == operations)
+    let reset = injection.interruption == Interruption::Watchdog;
+    let none = !landing::barrier_ran(injection.progress);
+    reset & none & (injection.op == operations)
 }
 
 // The power loss that comes before everything, where there is nothing for it to fire on.
 fn is_opening(injection: Injection, operations: usize) -> bool
     ensures { result ≡ is_opening injection operations }
 {
-    let interruption = injection.interruption;
-    let progress = injection.progress;
-    let op = injection.op;
-    let none = is_none(progress);
-    let lost = is_power_loss(interruption);
-    (operations == 0) & (op == 0) & none & lost
-}
-
-// How many of a run's operations are compared: those through the armed one.
-fn end_of(op: usize, operations: usize) -> usize
-    ensures { result ≡ min (suc op) operations }
-{
-    if op < operations { op + 1 } else { operations }
+    let opening = Injection {
+        op: 0,
+        progress: Progress::None,
+        interruption: Interruption::PowerLoss,
+    };
+    (operations == 0) & (injection == opening)
 }
 
 // ---- what has to be alike
 
-// Whether two rows hold the same operation. A barrier has no span.
-fn same_op(kind: u8, offset: u32, len: u32, kind2: u8, offset2: u32, len2: u32) -> bool
-    ensures { result ≡ same_op (op_of kind offset len) (op_of kind2 offset2 len2) }
+fn same_ops(free: &Recorded<'_>, run: &Recorded<'_>, op: usize) -> bool
+    requires { Fits (recorded_in free.now) × Fits (recorded_in run.now) }
+    ensures { result ≡ same same_op (ops_through (suc op) (recorded_in free.now)) (ops_through (suc op) (recorded_in run.now)) }
 {
-    if (kind >= 2) & (kind2 >= 2) {
-        return true;
-    }
-    (kind == kind2) & (offset == offset2) & (len == len2)
-}
-
-fn same_ops(
-    kinds: &[u8],
-    offsets: &[u32],
-    lens: &[u32],
-    kinds2: &[u8],
-    offsets2: &[u32],
-    lens2: &[u32],
-) -> bool
-    requires { (length offsets.now ≡ length kinds.now) × (length lens.now ≡ length kinds.now) × (length offsets2.now ≡ length kinds2.now) × (length lens2.now ≡ length kinds2.now) }
-    ensures { result ≡ same same_op (ops_of kinds.now offsets.now lens.now) (ops_of kinds2.now offsets2.now lens2.now) }
-{
-    if kinds.len() != kinds2.len() {
+    let end = free.end_of(op);
+    if end != run.end_of(op) {
         return false;
     }
-    let mut i: usize = 0;
-    while i < kinds.len() {
-        let alike = same_op(
-            kinds[i],
-            offsets[i],
-            lens[i],
-            kinds2[i],
-            offsets2[i],
-            lens2[i],
-        );
-        if !alike {
+    for at in 0..end {
+        if free.op_at(at) != run.op_at(at) {
             return false;
         }
-        i += 1;
     }
     true
 }
 
-fn same_digests(digests: &[u64], digests2: &[u64]) -> bool
-    ensures { result ≡ same eqb digests.now digests2.now }
+fn same_digests(free: &Recorded<'_>, run: &Recorded<'_>, op: usize) -> bool
+    requires { Fits (recorded_in free.now) × Fits (recorded_in run.now) }
+    ensures { result ≡ same eqb (digests_through (suc op) (recorded_in free.now)) (digests_through (suc op) (recorded_in run.now)) }
 {
-    if digests.len() != digests2.len() {
-        return false;
-    }
-    let mut i: usize = 0;
-    while i < digests.len() {
-        if digests[i] != digests2[i] {
-            return false;
-        }
-        i += 1;
-    }
-    true
+    free.digests[..free.end_of(op)] == run.digests[..run.end_of(op)]
 }
 
-// Whether two rows hold the same mark. An end has no id.
-fn same_mark(code: u8, id: u32, place: u64, code2: u8, id2: u32, place2: u64) -> bool
-    ensures { result ≡ same_mark (mark_of code id place) (mark_of code2 id2 place2) }
-{
-    let begins = code == 1;
-    let begins2 = code2 == 1;
-    if begins & begins2 {
-        return (id == id2) & (place == place2);
-    }
-    (begins == begins2) & (place == place2)
-}
-
-// The first place from `from` on that is below a limit, or the length.
-fn next_below(places: &[u64], from: usize, limit: usize) -> usize
+// The first place from `from` on that is below a limit.
+fn next_below(places: &[u64], from: usize, limit: usize) -> Option<usize>
     requires { from ≤ length places.now }
-    ensures { result ≡ from + skipped limit (drop from places.now) }
+    ensures { result ≡ next_below limit from places.now }
 {
-    let mut i = from;
-    while i < places.len() {
-        if (places[i] as usize) < limit {
-            return i;
-        }
-        i += 1;
-    }
-    i
+    let ahead = places[from..]
+        .iter()
+        .position(|place| (*place as usize) < limit)?;
+    Some(from + ahead)
 }
 
-// Whether two runs have the same marks below a limit, of each its own.
-fn same_marks(
-    codes: &[u8],
-    ids: &[u32],
-    places: &[u64],
-    limit: usize,
-    codes2: &[u8],
-    ids2: &[u32],
-    places2: &[u64],
-    limit2: usize,
-) -> bool
-    requires { (length ids.now ≡ length codes.now) × (length places.now ≡ length codes.now) × (length ids2.now ≡ length codes2.now) × (length places2.now ≡ length codes2.now) }
-    ensures { result ≡ same same_mark (below limit (marks_from codes.now ids.now places.now)) (below limit2 (marks_from codes2.now ids2.now places2.now)) }
+// The marks whose operation count is below what is compared, of each run its own.
+fn same_marks(free: &Recorded<'_>, run: &Recorded<'_>, op: usize) -> bool
+    requires { Fits (recorded_in free.now) × Fits (recorded_in run.now) }
+    ensures { result ≡ same same_mark (marks_through (suc op) (recorded_in free.now)) (marks_through (suc op) (recorded_in run.now)) }
 {
-    let mut i = next_below(places, 0, limit);
-    let mut j = next_below(places2, 0, limit2);
-    while (i < places.len()) & (j < places2.len()) {
-        let alike = same_mark(codes[i], ids[i], places[i], codes2[j], ids2[j], places2[j]);
-        if !alike {
+    let free_end = free.end_of(op);
+    let end = run.end_of(op);
+    let free_places = &free.places[..free.counters.marks];
+    let places = &run.places[..run.counters.marks];
+    let mut i = next_below(free_places, 0, free_end);
+    let mut j = next_below(places, 0, end);
+    // Two runs are walked at once, each by its own next mark: an iterator of either is no plainer.
+    while let (Some(m), Some(n)) = (i, j) {
+        if free.mark_at(m) != run.mark_at(n) {
             return false;
         }
-        i = next_below(places, i + 1, limit);
-        j = next_below(places2, j + 1, limit2);
+        i = next_below(free_places, m + 1, free_end);
+        j = next_below(places, n + 1, end);
     }
-    (i >= places.len()) & (j >= places2.len())
+    i.is_none() & j.is_none()
 }
 
 // Whether two runs have the same operations and digests through the armed operation, and the same marks below it.
-fn same_through(
-    op: usize,
-    free: Counters,
-    free_kinds: &[u8],
-    free_offsets: &[u32],
-    free_lens: &[u32],
-    free_digests: &[u64],
-    free_codes: &[u8],
-    free_ids: &[u32],
-    free_places: &[u64],
-    run: Counters,
-    kinds: &[u8],
-    offsets: &[u32],
-    lens: &[u32],
-    digests: &[u64],
-    codes: &[u8],
-    ids: &[u32],
-    places: &[u64],
-) -> bool
-    requires { Fits (recorded_of free free_kinds.now free_offsets.now free_lens.now free_digests.now free_codes.now free_ids.now free_places.now) × Fits (recorded_of run kinds.now offsets.now lens.now digests.now codes.now ids.now places.now) }
-    ensures { result ≡ same_through (suc op) (recorded_of free free_kinds.now free_offsets.now free_lens.now free_digests.now free_codes.now free_ids.now free_places.now) (recorded_of run kinds.now offsets.now lens.now digests.now codes.now ids.now places.now) }
+fn same_through(free: &Recorded<'_>, run: &Recorded<'_>, op: usize) -> bool
+    requires { Fits (recorded_in free.now) × Fits (recorded_in run.now) }
+    ensures { result ≡ same_through (suc op) (recorded_in free.now) (recorded_in run.now) }
 {
-    let free_end = end_of(op, free.operations);
-    let end = end_of(op, run.operations);
-    let free_count = free.marks;
-    let count = run.marks;
-    let same_rows = same_ops(
-        &free_kinds[..free_end],
-        &free_offsets[..free_end],
-        &free_lens[..free_end],
-        &kinds[..end],
-        &offsets[..end],
-        &lens[..end],
-    );
-    let same_bytes = same_digests(&free_digests[..free_end], &digests[..end]);
-    let same_records = same_marks(
-        &free_codes[..free_count],
-        &free_ids[..free_count],
-        &free_places[..free_count],
-        free_end,
-        &codes[..count],
-        &ids[..count],
-        &places[..count],
-        end,
-    );
+    let same_rows = same_ops(free, run, op);
+    let same_bytes = same_digests(free, run, op);
+    let same_records = same_marks(free, run, op);
     same_rows & same_bytes & same_records
 }
 
 // Holds a finished run to the fault-free one: from the injection that was armed in it, and what the two sessions kept.
 pub fn held_to(
     injection: Injection,
-    free: Counters,
-    free_kinds: &[u8],
-    free_offsets: &[u32],
-    free_lens: &[u32],
-    free_digests: &[u64],
-    free_codes: &[u8],
-    free_ids: &[u32],
-    free_places: &[u64],
-    run: Counters,
-    kinds: &[u8],
-    offsets: &[u32],
-    lens: &[u32],
-    digests: &[u64],
-    codes: &[u8],
-    ids: &[u32],
-    places: &[u64],
-) -> Held
-    ensures { result ≡ held_call injection (recorded_of free free_kinds.now free_offsets.now free_lens.now free_digests.now free_codes.now free_ids.now free_places.now) (recorded_of run kinds.now offsets.now lens.now digests.now codes.now ids.now places.now) }
+    free: &Recorded<'_>,
+    run: &Recorded<'_>,
+) -> Result<Held, Refusal>
+    ensures { numbered number_of result ≡ held_call injection (recorded_in free.now) (recorded_in run.now) }
 {
-    let free_number = columns_refusal(
-        free,
-        free_kinds,
-        free_offsets,
-        free_lens,
-        free_digests,
-        free_codes,
-        free_ids,
-        free_places,
-    );
-    let number = columns_refusal(run, kinds, offsets, lens, digests, codes, ids, places);
-    let refused = lowest(free_number, number);
-    if refused != 0 {
-        return Held::NotHeld(refused);
+    columns_refusal(free, run)?;
+    let operations = free.counters.operations;
+    if is_terminal(injection, operations) {
+        return Ok(Held::Relabelled);
     }
-    if is_terminal(injection, free.operations) {
-        return Held::Relabelled;
+    if !run.counters.fired & !is_opening(injection, operations) {
+        return Err(Refusal::NeverFired);
     }
-    let fired = run.fired;
-    if !fired & !is_opening(injection, free.operations) {
-        return Held::NotHeld(25);
+    if !same_through(free, run, injection.op) {
+        return Err(Refusal::Diverged);
     }
-    let alike = same_through(
-        injection.op,
-        free,
-        free_kinds,
-        free_offsets,
-        free_lens,
-        free_digests,
-        free_codes,
-        free_ids,
-        free_places,
-        run,
-        kinds,
-        offsets,
-        lens,
-        digests,
-        codes,
-        ids,
-        places,
-    );
-    if alike { Held::Kept } else { Held::NotHeld(26) }
+    Ok(Held::Kept)
 }

@@ -8,33 +8,30 @@ ghost use Rattle.held.specs.Held.{recorded_of, held_call};
 ghost use Rattle.session_numbers.specs.Numbers.{progress_of, interruption_of, counters_of};
 ghost use Rattle.held_exported.specs.Codes.{injection_of, code_of};
 
-use held::Held;
+use basics::Numbered;
+use held::{Held, Recorded};
 use inject::{Injection, Interruption, Progress};
 
 // The progress of a kind and a byte count.
 fn progress_of(kind: u32, count: u32) -> Progress
     ensures { result ≡ progress_of kind count }
 {
-    if kind == 0 {
-        return Progress::None;
+    match kind {
+        0 => Progress::None,
+        1 => Progress::Bytes(count),
+        _ => Progress::Whole,
     }
-    if kind == 1 {
-        return Progress::Bytes(count);
-    }
-    Progress::Whole
 }
 
 // The interruption of a number.
 fn interruption_of(cause: u32) -> Interruption
     ensures { result ≡ interruption_of cause }
 {
-    if cause == 0 {
-        return Interruption::PowerLoss;
+    match cause {
+        0 => Interruption::PowerLoss,
+        1 => Interruption::Watchdog,
+        _ => Interruption::Failure,
     }
-    if cause == 1 {
-        return Interruption::Watchdog;
-    }
-    Interruption::Failure
 }
 
 // `held_to`: 0 for the run, the number that refuses it, or 2^32, which no number is, for the fault-free run relabelled.
@@ -63,26 +60,23 @@ pub extern "C" fn held_of_runs(
 ) -> u64
     ensures { result ≡ code_of (held_call (injection_of op kind count cause) (recorded_of (counters_of free_state.now) free_kinds.now free_offsets.now free_lens.now free_digests.now free_codes.now free_ids.now free_places.now) (recorded_of (counters_of state.now) kinds.now offsets.now lens.now digests.now codes.now ids.now places.now)) }
 {
-    let progress = progress_of(kind, count);
-    let interruption = interruption_of(cause);
     let injection = Injection {
         op: op as usize,
-        progress,
-        interruption,
+        progress: progress_of(kind, count),
+        interruption: interruption_of(cause),
     };
-    let free = session_numbers::counters_of(free_state);
-    let run = session_numbers::counters_of(state);
-    let held = held::held_to(
-        injection,
-        free,
-        free_kinds,
-        free_offsets,
-        free_lens,
-        free_digests,
-        free_codes,
-        free_ids,
-        free_places,
-        run,
+    let free = Recorded {
+        counters: session_numbers::counters_of(free_state),
+        kinds: free_kinds,
+        offsets: free_offsets,
+        lens: free_lens,
+        digests: free_digests,
+        codes: free_codes,
+        ids: free_ids,
+        places: free_places,
+    };
+    let run = Recorded {
+        counters: session_numbers::counters_of(state),
         kinds,
         offsets,
         lens,
@@ -90,10 +84,10 @@ pub extern "C" fn held_of_runs(
         codes,
         ids,
         places,
-    );
-    match held {
-        Held::Kept => 0,
-        Held::Relabelled => 0x1_0000_0000,
-        Held::NotHeld(number) => number as u64,
+    };
+    match held::held_to(injection, &free, &run) {
+        Ok(Held::Kept) => 0,
+        Ok(Held::Relabelled) => 0x1_0000_0000,
+        Err(refusal) => refusal.number() as u64,
     }
 }

@@ -1,49 +1,15 @@
 -- Pairs and the bytes that they stand for: how many there are, each one by its place, and `decode`, byte by byte.
 -- Assumes nothing.
 use mathlib.Core.Path.{◌≡◌, refl, ap, ap₂, sym, ◌∙◌}
-use mathlib.Core.Bool.{true, false, ◌&&◌}
 use mathlib.Core.List.{List, [], ◌∷◌, ◌++◌}
 use Prim.Native.Nat.{ℕ, zero, suc, ◌+◌, ◌-◌, ◌*◌, ◌/◌, ◌%◌, ◌≤◌, ◌<◌, min}
 use native.Mathlib.Nat.{not-suc-le-zero}
 use native.Mathlib.Omega.{arith}
 use lib.ListN.{length, get_or, set, take, drop, length-take, length-drop}
 use lib.Seq.{get_or-drop, get_or-take, take-length}
-use lib.Dec.{leb}
-use borrow.Author.Tests.{leb-true}
 use Rattle.basics.proofs.Overwrites.{over-more}
-use Rattle.text.specs.Numbers.{is_digit}
-use Rattle.text.specs.Pairs.{is_letter, hex_of, pair_values}
-use Rattle.text.proofs.Plain.{both}
+use Rattle.text.specs.Pairs.{hex_of, pair_values}
 use Rattle.hex_pairs.specs.Answers.{decoded}
-use Rattle.hex_pairs.specs.Inner.{Nibble}
-
--- ---- one digit
-
-module _ (c : ℕ) where
-  pub value-digit : (leb 48 c && leb c 57) ≡ true → c - 48 ≡ hex_of c
-  unfolding hex_of is_digit
-  value-digit e = rw e
-
-  module _ (n : (leb 48 c && leb c 57) ≡ false) where
-    pub value-letter : (leb 97 c && leb c 102) ≡ true → c - 87 ≡ hex_of c
-    unfolding hex_of is_digit is_letter
-    value-letter e = rw (n, e)
-
-    pub value_none : (leb 97 c && leb c 102) ≡ false → 0 ≡ hex_of c
-    unfolding hex_of is_digit is_letter
-    value_none e = rw (n, e)
-
-pub range : (a b c : ℕ) → (leb a c && leb c b) ≡ true → (a ≤ c) × (c ≤ b)
-range a b c e = let t = both (leb a c) (leb c b) e in (leb-true a c t.0, leb-true c b t.1)
-
-pub nibble-digit : (c : ℕ) → (leb 48 c && leb c 57) ≡ true → Nibble c (c - 48)
-nibble-digit c e = let r = range 48 57 c e in let a = r.0 in let b = r.1 in record { is = value-digit c e; small = omega arith }
-
-pub nibble-letter : (c : ℕ) → (leb 48 c && leb c 57) ≡ false → (leb 97 c && leb c 102) ≡ true → Nibble c (c - 87)
-nibble-letter c n e = let r = range 97 102 c e in let a = r.0 in let b = r.1 in record { is = value-letter c n e; small = omega arith }
-
-pub nibble-none : (c : ℕ) → (leb 48 c && leb c 57) ≡ false → (leb 97 c && leb c 102) ≡ false → Nibble c 0
-nibble-none c n e = record { is = value_none c n e; small = omega arith }
 
 -- ---- pairs
 
@@ -103,6 +69,3 @@ module _ (s : List ℕ) (from : ℕ) (old : List ℕ) (count : ℕ) (e : count �
       let n : length (new s from old) ≡ count = new-long s from old ∙ sym e in
       let q : k ≡ length (new s from old) = omega arith in
       is ∙ ap (λ (m : ℕ). take m (new s from old) ++ drop m old) q ∙ ap (λ (t : List ℕ). t ++ drop (length (new s from old)) old) (take-length (new s from old))
-
--- all of them, for `search (rules, decodes)`
-pub ruleset decodes = (nibble-digit, nibble-letter, nibble-none)

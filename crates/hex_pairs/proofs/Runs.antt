@@ -6,11 +6,11 @@
 use mathlib.Core.Path.{◌≡◌, refl, ap, sym, ◌∙◌}
 use mathlib.Core.Bool.{Bool, true, false, cond, ◌&&◌}
 use mathlib.Core.List.{List, [], ◌∷◌, ◌++◌}
-use Prim.Native.Nat.{ℕ, zero, suc, ◌+◌, ◌-◌, ◌/◌, ◌%◌, ◌≤◌, ◌<◌}
+use Prim.Native.Nat.{ℕ, zero, suc, ◌+◌, ◌-◌, ◌*◌, ◌/◌, ◌%◌, ◌≤◌, ◌<◌}
 use native.Mathlib.Nat.{not-suc-le-zero, le_of_suc-le-suc}
 use native.Mathlib.Omega.{arith}
 use lib.ListN.{length, get_or, take, drop, drop_of_length-le, length-drop}
-use lib.Seq.{get_or-drop, drop-drop, length-take-le}
+use lib.Seq.{get_or-drop, drop-drop, length-take-le, take-length}
 use lib.Dec.{eqb}
 use borrow.Author.Tests.{eq-eqb, ne_eqb}
 use Rattle.basics.proofs.Scans.{at-step, at-end, take_more}
@@ -18,7 +18,8 @@ use Rattle.text.specs.Fields.{Field, field, missing, onto, field_to}
 use Rattle.text.specs.Numbers.{is_digit}
 use Rattle.text.specs.Pairs.{is_letter, is_hex, all_hex, is_pairs}
 use Rattle.text.proofs.Plain.{both}
-use Rattle.hex_pairs.specs.declared.Pairs.TheVariants.{Paired, NoPairs}
+use Rattle.std.specs.Prelude.{Some, None}
+use Rattle.std.specs.Simd.{first_chunks}
 use Rattle.hex_pairs.specs.Answers.{pairs_at}
 use Rattle.hex_pairs.specs.Inner.{hexes, Skipped, Stopped}
 
@@ -69,11 +70,8 @@ block (suc n) (x ∷ xs) h e =
     let r = block n xs (le_of_suc-le-suc h) t.1 in
     simp t.0 (omega (arith, r))
 
-pub block-next : (s : List ℕ) (i : ℕ) → 32 ≤ length s - i → (digits : Bool) → digits ≡ all_hex (take (i + 32 - i) (drop i s)) → digits ≡ true
-    → i + hexes (drop i s) ≡ i + 32 + hexes (drop (i + 32) s)
-block-next s i h digits e n =
-    let w : i + 32 - i ≡ 32 = omega arith in
-    let a : all_hex (take 32 (drop i s)) ≡ true = ap (λ (m : ℕ). all_hex (take m (drop i s))) (sym w) ∙ sym e ∙ n in
+pub block-next : (s : List ℕ) (i : ℕ) → 32 ≤ length s - i → all_hex (take 32 (drop i s)) ≡ true → i + hexes (drop i s) ≡ i + 32 + hexes (drop (i + 32) s)
+block-next s i h a =
     let k : 32 ≤ length (drop i s) = rw length-drop h in
     let b : hexes (drop i s) ≡ 32 + hexes (drop 32 (drop i s)) = block 32 (drop i s) k a in
     let d : drop 32 (drop i s) ≡ drop (i + 32) s = drop-drop 32 i s in
@@ -82,14 +80,29 @@ block-next s i h digits e n =
 
 -- ---- skip_blocks and hex_end
 
+chunk-at : (n k i : ℕ) (xs : List ℕ) → i < k → get_or (first_chunks n k xs) i [] ≡ take n (drop (i * n) xs)
+chunk-at n zero i xs h = absurd (omega arith)
+chunk-at n (suc k) zero xs h = let z : 0 * n ≡ 0 = omega arith in rw z
+chunk-at n (suc k) (suc i) xs h =
+    let e : n + i * n ≡ suc i * n = omega arith in
+    chunk-at n k i (drop n xs) (omega arith) ∙ ap (take n) (drop-drop (i * n) n xs ∙ ap (λ (m : ℕ). drop m xs) e)
+
 pub skip-start : (s : List ℕ) (from : ℕ) → from ≤ length s → Skipped s from from
 skip-start s from h = record { low = omega arith; high = h; same = refl }
 
 module _ (s : List ℕ) (from i : ℕ) (w : Skipped s from i) where
-  pub skip_block : 32 ≤ length s - i → (digits : Bool) → digits ≡ all_hex (take (i + 32 - i) (drop i s)) → digits ≡ true → Skipped s from (i + 32)
-  skip_block h digits e n =
+  -- the block is the k-th of those from `from` on
+  pub skip_block : (blocks : List (List ℕ)) (k : ℕ) → blocks ≡ first_chunks 32 (length (take (length s - from) (drop from s)) / 32) (take (length s - from) (drop from s))
+      → length blocks ≡ length (take (length s - from) (drop from s)) / 32 → k < length blocks → i ≡ from + k * 32
+      → (digits : Bool) → digits ≡ all_hex (get_or blocks k []) → digits ≡ true → Skipped s from (i + 32)
+  skip_block blocks k b m h q digits e n =
       let l = w.low in
-      record { low = omega arith; high = omega arith; same = w.same ∙ block-next s i h digits e n }
+      let d : length (drop from s) ≡ length s - from = length-drop from s in
+      let t : take (length s - from) (drop from s) ≡ drop from s = ap (λ (j : ℕ). take j (drop from s)) (sym d) ∙ take-length (drop from s) in
+      let g : k < length (drop from s) / 32 = let z = rw t at m in omega (arith, z) in
+      let x : get_or blocks k [] ≡ take 32 (drop i s) =
+      rw (b, t) (chunk-at 32 (length (drop from s) / 32) k (drop from s) g ∙ ap (take 32) (drop-drop (k * 32) from s ∙ ap (λ (j : ℕ). drop j s) (sym q))) in
+      record { low = omega arith; high = omega arith; same = w.same ∙ block-next s i (omega arith) (ap all_hex (sym x) ∙ sym e ∙ n) }
 
   module _ (h : i < length s) (digit : Bool) (q : digit ≡ is_hex (get_or s i 0)) where
     pub skip-digit : digit ≡ true → Skipped s from (i + 1)
@@ -176,12 +189,12 @@ run-other (x ∷ xs) h g = other_step (is_hex x) x xs refl h g (λ a b. run-othe
 
 -- ---- read_pairs
 
-no_pairs : (from : ℕ) (F : Field) → hex_field F ≡ false → NoPairs ≡ pairs_at from F
+no_pairs : (from : ℕ) (F : Field) → hex_field F ≡ false → None ≡ pairs_at from F
 unfolding is_pairs
 no_pairs from missing e = refl
 no_pairs from (field f) e = rw e
 
-pub pairs-out : (s : List ℕ) (from : ℕ) → length s < from → NoPairs ≡ pairs_at from (field_to 10 (drop from s))
+pub pairs-out : (s : List ℕ) (from : ℕ) → length s < from → None ≡ pairs_at from (field_to 10 (drop from s))
 unfolding field_to
 pairs-out s from h = let k : length s ≤ from = omega arith in rw (drop_of_length-le s {i = from} k)
 
@@ -192,7 +205,7 @@ module _ (s : List ℕ) (from r : ℕ) (w : Stopped s from r) where
   long : length (drop from s) ≡ length s - from
   long = length-drop from s
 
-  pub pairs-cut : length s ≤ r → NoPairs ≡ pairs_at from (field_to 10 (drop from s))
+  pub pairs-cut : length s ≤ r → None ≡ pairs_at from (field_to 10 (drop from s))
   pairs-cut h =
       let k : r ≤ length s = w.high in
       let q : hexes (drop from s) ≡ length (drop from s) = omega (arith, size, long) in
@@ -205,7 +218,7 @@ module _ (s : List ℕ) (from r : ℕ) (w : Stopped s from r) where
     byte : get_or (drop from s) (hexes (drop from s)) 0 ≡ get_or s r 0
     byte = get_or-drop from s (hexes (drop from s)) 0 ∙ ap (λ (n : ℕ). get_or s n 0) (sym w.is)
 
-    pub pairs-other : (get_or s r 0 ≡ 10 → ⊥) → NoPairs ≡ pairs_at from (field_to 10 (drop from s))
+    pub pairs-other : (get_or s r 0 ≡ 10 → ⊥) → None ≡ pairs_at from (field_to 10 (drop from s))
     pairs-other n = no_pairs from (field_to 10 (drop from s)) (run-other (drop from s) inside (λ q. n (sym byte ∙ q)))
 
     module _ (q : get_or s r 0 ≡ 10) where
@@ -215,11 +228,11 @@ module _ (s : List ℕ) (from r : ℕ) (w : Stopped s from r) where
       wide : length (take (hexes (drop from s)) (drop from s)) ≡ r - from
       wide = length-take-le (hexes (drop from s)) (drop from s) (let i = inside in omega arith) ∙ size
 
-      pub pairs-odd : ((r - from) % 2 ≡ 0 → ⊥) → NoPairs ≡ pairs_at from (field_to 10 (drop from s))
+      pub pairs-odd : ((r - from) % 2 ≡ 0 → ⊥) → None ≡ pairs_at from (field_to 10 (drop from s))
       unfolding is_pairs
       pairs-odd n = rw (run.is, run.hex, wide, ne_eqb _ _ n)
 
-      pub pairs-even : (r - from) % 2 ≡ 0 → Paired ((r - from) / 2) (r + 1) ≡ pairs_at from (field_to 10 (drop from s))
+      pub pairs-even : (r - from) % 2 ≡ 0 → Some ((r - from) / 2, r + 1) ≡ pairs_at from (field_to 10 (drop from s))
       unfolding is_pairs
       pairs-even n =
           let l = w.low in

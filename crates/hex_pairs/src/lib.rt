@@ -11,19 +11,11 @@ ghost use Rattle.hex_pairs.specs.Inner.{Skipped, Stopped, Nibble};
 
 use text::LF;
 
-// How many hexadecimal pairs a field is, and the next place.
-#[derive(Clone, Copy)]
-pub enum Pairs {
-    Paired(usize, usize),
-    NoPairs,
-}
-
-// Whether a byte is a hexadecimal digit in lower case. Both tests are taken, with no branch, so that a loop over it can
-// do many bytes at once.
+// Whether a byte is a hexadecimal digit in lower case.
 fn is_hex(c: u8) -> bool
     ensures { result ≡ is_hex c }
 {
-    (48 <= c) & (c <= 57) | (97 <= c) & (c <= 102)
+    matches!(c, b'0'..=b'9' | b'a'..=b'f')
 }
 
 // Whether all bytes are hexadecimal digits. It never stops early: that is what lets many bytes be done at once.
@@ -31,11 +23,8 @@ fn all_hex(bytes: &[u8]) -> bool
     ensures { result ≡ all_hex bytes.now }
 {
     let mut all = true;
-    let mut i = 0;
-    while i < bytes.len() {
-        let digit = is_hex(bytes[i]);
-        all = all & digit;
-        i += 1;
+    for byte in bytes {
+        all &= is_hex(*byte);
     }
     all
 }
@@ -45,14 +34,13 @@ fn skip_blocks(text: &[u8], from: usize) -> usize
     requires { from ≤ length text.now }
     ensures { Skipped text.now from result }
 {
+    let (blocks, _) = text[from..].as_chunks::<32>();
     let mut i = from;
-    while 32 <= text.len() - i {
-        let past = i + 32;
-        let digits = all_hex(&text[i..past]);
-        if !digits {
+    for block in blocks {
+        if !all_hex(block) {
             return i;
         }
-        i = past;
+        i += block.len();
     }
     i
 }
@@ -62,63 +50,42 @@ fn hex_end(text: &[u8], from: usize) -> usize
     requires { from ≤ length text.now }
     ensures { Stopped text.now from result }
 {
-    let mut i = skip_blocks(text, from);
-    while i < text.len() {
-        let digit = is_hex(text[i]);
-        if !digit {
+    let start = skip_blocks(text, from);
+    for i in start..text.len() {
+        if !is_hex(text[i]) {
             return i;
         }
-        i += 1;
     }
-    i
+    text.len()
 }
 
-// The field from `from` up to the first LF, as hexadecimal pairs in lower case.
-pub fn read_pairs(text: &[u8], from: usize) -> Pairs
+// How many pairs the field from `from` up to the first LF is, as hexadecimal pairs in lower case, and the place past the LF.
+pub fn read_pairs(text: &[u8], from: usize) -> Option<(usize, usize)>
     ensures { result ≡ pairs_at from (field_to 10 (drop from text.now)) }
 {
     if text.len() < from {
-        return Pairs::NoPairs;
+        return None;
     }
     let stop = hex_end(text, from);
-    if text.len() <= stop {
-        return Pairs::NoPairs;
-    }
-    if text[stop] != LF {
-        return Pairs::NoPairs;
+    if *text.get(stop)? != LF {
+        return None;
     }
     let size = stop - from;
     if size % 2 != 0 {
-        return Pairs::NoPairs;
+        return None;
     }
-    Pairs::Paired(size / 2, stop + 1)
+    Some((size / 2, stop + 1))
 }
 
 // The value of a hexadecimal digit, and 0 for any other byte.
 fn hex(c: u8) -> u8
     ensures { Nibble c result }
 {
-    if (48 <= c) & (c <= 57) {
-        return c - 48;
+    match c {
+        b'0'..=b'9' => c - b'0',
+        b'a'..=b'f' => c - b'a' + 10,
+        _ => 0,
     }
-    if (97 <= c) & (c <= 102) {
-        return c - 87;
-    }
-    0
-}
-
-// How many pairs of a text from a place on a buffer takes.
-fn pairs_taken(text: usize, from: usize, room: usize) -> usize
-    ensures { result ≡ min room ((text - from) / 2) }
-{
-    if text <= from {
-        return 0;
-    }
-    let there = (text - from) / 2;
-    if there < room {
-        return there;
-    }
-    room
 }
 
 // Stores the bytes that the pairs from `from` on stand for, as many as `out` holds. Where the text has fewer pairs, the
@@ -126,14 +93,11 @@ fn pairs_taken(text: usize, from: usize, room: usize) -> usize
 pub fn decode(text: &[u8], from: usize, out: &mut [u8])
     ensures { out.new ≡ decoded text.now from out.old }
 {
-    let count = pairs_taken(text.len(), from, out.len());
-    let mut i = from;
-    let mut k = 0;
-    while k < count {
+    let pairs = text.len().saturating_sub(from) / 2;
+    for k in 0..out.len().min(pairs) {
+        let i = from + 2 * k;
         let high = hex(text[i]);
         let low = hex(text[i + 1]);
         out[k] = high * 16 + low;
-        k += 1;
-        i += 2;
     }
 }

@@ -4,66 +4,32 @@
 // definition of specs/.
 #![tactic(auto)]
 
-ghost use Rattle.std.specs.Prelude.{◌≡◌, ◌++◌, ◌≤◌, length, drop};
+ghost use Rattle.std.specs.Prelude.{◌≡◌};
+ghost use Rattle.basics.specs.Replies.{numbered};
+ghost use Rattle.refusals.specs.Numbers.{number_of};
 ghost use Rattle.model.specs.Answers.{Written};
-ghost use Rattle.model.specs.Columns.{entry_of, ledger_of};
-ghost use Rattle.history.specs.History.{is_kept, suggested, suggested_written};
+ghost use Rattle.history.specs.History.{is_kept, suggested_written};
 
-use model::ListAnswer;
+use ids_by_state::Pick;
+use model::LedgerRef;
+use refusals::Refusal;
 
 // Committed and not torn.
-fn is_kept(state: u8, torn: u8) -> bool
-    ensures { result ≡ is_kept (entry_of 0 state torn) }
-{
-    (state != 0) & (torn != 1)
-}
+struct IsKept;
 
-fn count_kept(ids: &[u32], states: &[u8], torn: &[u8]) -> usize
-    requires { (length states.now ≡ length ids.now) × (length torn.now ≡ length ids.now) }
-    ensures { result ≡ length (suggested (ledger_of ids.now states.now torn.now)) }
-{
-    let mut n: usize = 0;
-    let mut i = 0;
-    while i < ids.len() {
-        let kept = is_kept(states[i], torn[i]);
-        if kept {
-            n += 1;
-        }
-        i += 1;
-    }
-    n
-}
+impl Pick for IsKept {
+    ghost picks = { is_kept };
 
-// Writes the kept ids into a column that has room for them, in order from its front.
-fn fill_kept(ids: &[u32], states: &[u8], torn: &[u8], column: &mut [u32])
-    requires { (length states.now ≡ length ids.now) × (length torn.now ≡ length ids.now) × (length (suggested (ledger_of ids.now states.now torn.now)) ≤ length column.old) }
-    ensures { column.new ≡ suggested (ledger_of ids.now states.now torn.now) ++ drop (length (suggested (ledger_of ids.now states.now torn.now))) column.old }
-{
-    let mut n: usize = 0;
-    let mut row = 0;
-    while row < ids.len() {
-        let kept = is_kept(states[row], torn[row]);
-        if kept {
-            column[n] = ids[row];
-            n += 1;
-        }
-        row += 1;
+    fn picks(_id: u32, state: u8, torn: u8) -> bool {
+        (state != 0) & (torn != 1)
     }
 }
 
 // The ids of the committed entries that are not torn, in ledger order: from the front of `column`, and how many they are. The
 // cells past them are left alone.
-pub fn suggested(ids: &[u32], states: &[u8], torn: &[u8], column: &mut [u32]) -> ListAnswer
-    ensures { ◌≡◌ {A = Written} (record { answer = result; column = column.new }) (suggested_written ids.now states.now torn.now column.old) }
+#[tactic(auto, unfolding(ids_by_state::specs::Answers::picked_written, crate::specs::History::suggested_written, crate::specs::History::suggested))]
+pub fn suggested(ledger: &LedgerRef<'_>, column: &mut [u32]) -> Result<usize, Refusal>
+    ensures { ◌≡◌ {A = Written} (record { answer = numbered number_of result; column = column.new }) (suggested_written ledger.now.ids.now ledger.now.states.now ledger.now.torn.now column.old) }
 {
-    let number = model::refusal(ids, states, torn);
-    if number != 0 {
-        return ListAnswer::ListRefused(number);
-    }
-    let n = count_kept(ids, states, torn);
-    if column.len() < n {
-        return ListAnswer::ListRefused(13);
-    }
-    fill_kept(ids, states, torn, column);
-    ListAnswer::ListIs(n)
+    ids_by_state::write_picked::<IsKept>(ledger, column)
 }

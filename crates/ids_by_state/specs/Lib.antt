@@ -1,4 +1,2 @@
--- What the functions that write ids into a column answer; the ledger's definitions are in `model`. `Inner` has what only a
--- private contract cites. Assumes nothing.
+-- What the functions that write ids into a column answer; the ledger's definitions are in `model`. Assumes nothing.
 pub mod Answers
-pub mod Inner

@@ -1,76 +1,103 @@
-// The ids of a ledger by state, after model.rs: those that are committed and those that are acknowledged, in ledger order, into
-// a lent column. The ledger is three lent columns, as in `model`: columns that hold none are refused with 12, and a lent
-// column that is too short for the result with 13; a refusal changes nothing. Each promise is an equation with a definition
+// The ids of a ledger by what is known of them, after model.rs: those that are committed and those that are acknowledged, in ledger
+// order, into a lent column. The ledger is three lent columns, as in `model`: columns that hold none are refused with 12, and a
+// lent column that is too short for the result with 13; a refusal changes nothing. Each promise is an equation with a definition
 // of specs/.
 #![tactic(auto)]
 
-ghost use Rattle.std.specs.Prelude.{◌≡◌, ◌≤◌, length, drop, ◌++◌};
+ghost use Rattle.std.specs.Prelude.{◌≡◌, ◌≤◌, Bool, length, drop, ◌++◌};
+ghost use Rattle.basics.specs.Replies.{numbered};
+ghost use Rattle.refusals.specs.Numbers.{number_of};
 ghost use Rattle.model.specs.Answers.{Written};
-ghost use Rattle.model.specs.Scans.{ids_from};
-ghost use Rattle.ids_by_state.specs.Answers.{committed_written, acknowledged_written};
-ghost use Rattle.ids_by_state.specs.Inner.{written_from};
+ghost use Rattle.model.specs.Columns.{entry_of, ledger_of};
+ghost use Rattle.model.specs.Ledger.{Entry, is_committed, is_acknowledged};
+ghost use Rattle.ids_by_state.specs.Answers.{picked_ids, picked_written, committed_written, acknowledged_written};
 
-use model::ListAnswer;
+use model::LedgerRef;
+use refusals::Refusal;
 
-// How many ids have a state of at least `least`.
-fn count_from(ids: &[u32], states: &[u8], least: u8) -> usize
-    requires { length states.now ≡ length ids.now }
-    ensures { result ≡ length (ids_from least ids.now states.now) }
+// Which entries of a ledger are meant, told of a row of its columns.
+pub trait Pick {
+    ghost picks: { Entry → Bool };
+
+    fn picks(id: u32, state: u8, torn: u8) -> bool
+        ensures { result ≡ picks (entry_of id state torn) };
+}
+
+// Those that reached media at all.
+struct IsCommitted;
+
+impl Pick for IsCommitted {
+    ghost picks = { is_committed };
+
+    fn picks(_id: u32, state: u8, _torn: u8) -> bool {
+        1 <= state
+    }
+}
+
+// Those that recovery is required to produce.
+struct IsAcknowledged;
+
+impl Pick for IsAcknowledged {
+    ghost picks = { is_acknowledged };
+
+    fn picks(_id: u32, state: u8, _torn: u8) -> bool {
+        2 <= state
+    }
+}
+
+// How many ids are meant.
+fn count<T: Pick>(ledger: &LedgerRef<'_>) -> usize
+    ensures { result ≡ length (picked_ids T.picks (ledger_of ledger.now.ids.now ledger.now.states.now ledger.now.torn.now)) }
 {
-    let mut n: usize = 0;
-    let mut i = 0;
-    while i < ids.len() {
-        if least <= states[i] {
+    let mut n = 0;
+    for ((id, state), torn) in ledger.ids.iter().zip(ledger.states).zip(ledger.torn) {
+        if T::picks(*id, *state, *torn) {
             n += 1;
         }
-        i += 1;
     }
     n
 }
 
 // Writes those ids into a column that has room for them, in order from its front.
-fn fill_from(ids: &[u32], states: &[u8], least: u8, column: &mut [u32])
-    requires { (length states.now ≡ length ids.now) × (length (ids_from least ids.now states.now) ≤ length column.old) }
-    ensures { column.new ≡ ids_from least ids.now states.now ++ drop (length (ids_from least ids.now states.now)) column.old }
+fn fill<T: Pick>(ledger: &LedgerRef<'_>, column: &mut [u32])
+    requires { length (picked_ids T.picks (ledger_of ledger.now.ids.now ledger.now.states.now ledger.now.torn.now)) ≤ length column.old }
+    ensures { column.new ≡ picked_ids T.picks (ledger_of ledger.now.ids.now ledger.now.states.now ledger.now.torn.now) ++ drop (length (picked_ids T.picks (ledger_of ledger.now.ids.now ledger.now.states.now ledger.now.torn.now))) column.old }
 {
-    let mut n: usize = 0;
-    let mut row = 0;
-    while row < ids.len() {
-        if least <= states[row] {
-            column[n] = ids[row];
+    let mut n = 0;
+    for ((id, state), torn) in ledger.ids.iter().zip(ledger.states).zip(ledger.torn) {
+        if T::picks(*id, *state, *torn) {
+            column[n] = *id;
             n += 1;
         }
-        row += 1;
     }
 }
 
-// The ids with a state of at least `least`, counted and then written: a column that is too short is left as it was.
-fn write_from(ids: &[u32], states: &[u8], torn: &[u8], least: u8, column: &mut [u32]) -> ListAnswer
-    ensures { ◌≡◌ {A = Written} (record { answer = result; column = column.new }) (written_from least ids.now states.now torn.now column.old) }
+// The ids that are meant, in ledger order: from the front of `column`, and how many they are. The cells past them are left alone.
+// They are counted before they are written: a column that is too short is left as it was.
+pub fn write_picked<T: Pick>(ledger: &LedgerRef<'_>, column: &mut [u32]) -> Result<usize, Refusal>
+    ensures { ◌≡◌ {A = Written} (record { answer = numbered number_of result; column = column.new }) (picked_written T.picks ledger.now.ids.now ledger.now.states.now ledger.now.torn.now column.old) }
 {
-    let number = model::refusal(ids, states, torn);
-    if number != 0 {
-        return ListAnswer::ListRefused(number);
-    }
-    let n = count_from(ids, states, least);
+    ledger.refusal()?;
+    let n = count::<T>(ledger);
     if column.len() < n {
-        return ListAnswer::ListRefused(13);
+        return Err(Refusal::ColumnsTooShort);
     }
-    fill_from(ids, states, least, column);
-    ListAnswer::ListIs(n)
+    fill::<T>(ledger, column);
+    Ok(n)
 }
 
-// The records that reached media at all, in ledger order: their ids from the front of `column`, and how many they are. The
-// cells past them are left alone.
-pub fn committed(ids: &[u32], states: &[u8], torn: &[u8], column: &mut [u32]) -> ListAnswer
-    ensures { ◌≡◌ {A = Written} (record { answer = result; column = column.new }) (committed_written ids.now states.now torn.now column.old) }
+// The records that reached media at all.
+#[tactic(auto, unfolding(crate::specs::Answers::picked_written, crate::specs::Answers::committed_written, model::specs::Ledger::committed))]
+pub fn committed(ledger: &LedgerRef<'_>, column: &mut [u32]) -> Result<usize, Refusal>
+    ensures { ◌≡◌ {A = Written} (record { answer = numbered number_of result; column = column.new }) (committed_written ledger.now.ids.now ledger.now.states.now ledger.now.torn.now column.old) }
 {
-    write_from(ids, states, torn, 1, column)
+    write_picked::<IsCommitted>(ledger, column)
 }
 
-// The records that recovery is required to produce, in ledger order, in the same way.
-pub fn acknowledged(ids: &[u32], states: &[u8], torn: &[u8], column: &mut [u32]) -> ListAnswer
-    ensures { ◌≡◌ {A = Written} (record { answer = result; column = column.new }) (acknowledged_written ids.now states.now torn.now column.old) }
+// The records that recovery is required to produce.
+#[tactic(auto, unfolding(crate::specs::Answers::picked_written, crate::specs::Answers::acknowledged_written, model::specs::Ledger::acknowledged))]
+pub fn acknowledged(ledger: &LedgerRef<'_>, column: &mut [u32]) -> Result<usize, Refusal>
+    ensures { ◌≡◌ {A = Written} (record { answer = numbered number_of result; column = column.new }) (acknowledged_written ledger.now.ids.now ledger.now.states.now ledger.now.torn.now column.old) }
 {
-    write_from(ids, states, torn, 2, column)
+    write_picked::<IsAcknowledged>(ledger, column)
 }

@@ -8,17 +8,17 @@ use native.Mathlib.Numerals.{add-one}
 use native.Mathlib.Omega.{arith}
 use lib.ListN.{length, get_or, replicate, length-append, length-map, length-replicate, get_or-replicate, get_or-append}
 use lib.Seq.{get_or_at, get_or-append-add}
-use Rattle.basics.proofs.Lists.{get_or-map-lt}
+use Rattle.std.proofs.lemmas.List.{get_or-map}
 use Rattle.storage.specs.declared.Geometry.{Geometry}
 use Rattle.inject.specs.declared.Op.{Op}
 use Rattle.inject.specs.declared.Op.TheVariants.{Program, Erase, Barrier}
 use Rattle.inject.specs.declared.Progress.TheVariants.{None, Bytes, Whole}
 use Rattle.inject.specs.declared.Interruption.{Interruption}
 use Rattle.inject.specs.declared.Interruption.TheVariants.{PowerLoss, Watchdog, Failure}
-use Rattle.inject.specs.declared.Group.{Group}
+use Rattle.inject.specs.declared.group.Group.{Group}
 use Rattle.inject.specs.Ops.{len_of}
 use Rattle.inject.specs.Points.{inner, tear_points, reset_points, byte_points, none_point, whole_span, whole_point, progresses}
-use Rattle.inject.specs.Steps.{tear_unit, reset_unit, steps, grouped, Small, GroupOf}
+use Rattle.inject.specs.Steps.{tear_unit, reset_unit, steps, grouped, GroupOf}
 
 -- ---- the two units
 
@@ -40,24 +40,21 @@ one-whole (suc n) h = refl
 
 -- ---- the numbers are the operation's
 
--- what was found out of an operation before its interruption is looked at
-module _ (g : Geometry) (o : Op) (w : Interruption) (len unit k wholes : ℕ) (l : len ≡ len_of o)
-    (s : (steps unit k ≡ inner unit len) × (k * unit < 2 ^ 32)) (e : (replicate wholes Whole ≡ whole_point w o) × (wholes ≤ 1)) where
-  made : (nones : ℕ) → nones ≤ 1 → replicate nones None ≡ none_point w → inner unit len ≡ byte_points g w o
-      → GroupOf g w o (record { nones = nones; unit = unit; inner = k; wholes = wholes })
-  made nones few n b = record {
-    points = (unfold grouped progresses in rw (n, s.0, b, e.0));
-    small = record { nones-few = few; wholes-few = e.1; inner-fits = s.1 };
-  }
+-- what was found out of an operation: `n` has how many none points it has, and its unit
+module _ (g : Geometry) (o : Op) (w : Interruption) (n : ℕ × ℕ) (len : ℕ) (r : Group) (l : len ≡ len_of o) (i : r.nones ≡ n.0) (j : r.unit ≡ n.1)
+    (s : steps n.1 r.inner ≡ inner n.1 len) (e : replicate r.wholes Whole ≡ whole_point w o) where
+  made : replicate n.0 None ≡ none_point w → inner n.1 len ≡ byte_points g w o → GroupOf g w o r
+  made m b = record { points = (unfold grouped progresses in rw (i, j, m, s, b, e)) }
 
-  pub made-lost : w ≡ PowerLoss → unit ≡ tear_unit g o → GroupOf g w o (record { nones = 0; unit = unit; inner = k; wholes = wholes })
-  made-lost q u = made 0 (omega arith) (rw q) (rw (q, l, u) (tears g o))
+  module _ (unit : ℕ) where
+    pub made-lost : w ≡ PowerLoss → unit ≡ tear_unit g o → n ≡ (0, unit) → GroupOf g w o r
+    made-lost q u d = made (rw (d, q)) (rw (d, q, l, u) (tears g o))
 
-  pub made-reset : w ≡ Watchdog → unit ≡ reset_unit g o → GroupOf g w o (record { nones = 1; unit = unit; inner = k; wholes = wholes })
-  made-reset q u = made 1 (omega arith) (rw q) (rw (q, l, u) (resets g o))
+    pub made-reset : w ≡ Watchdog → unit ≡ reset_unit g o → n ≡ (1, unit) → GroupOf g w o r
+    made-reset q u d = made (rw (d, q)) (rw (d, q, l, u) (resets g o))
 
-  pub made-failed : w ≡ Failure → unit ≡ tear_unit g o → GroupOf g w o (record { nones = 1; unit = unit; inner = k; wholes = wholes })
-  made-failed q u = made 1 (omega arith) (rw q) (rw (q, l, u) (tears g o))
+    pub made-failed : w ≡ Failure → unit ≡ tear_unit g o → n ≡ (1, unit) → GroupOf g w o r
+    made-failed q u d = made (rw (d, q)) (rw (d, q, l, u) (tears g o))
 
 -- the same of the row that the operation was made of
 pub of_row : (g : Geometry) (w : Interruption) (o p : Op) (r : Group) → o ≡ p → GroupOf g w o r → GroupOf g w p r
@@ -103,7 +100,7 @@ module _ (r : Group) where
       let k = i - r.nones in
       past-nones i h
       ∙ get_or-append (map Bytes (steps r.unit r.inner)) _ None k (simp (length-map, length-steps) l)
-      ∙ get_or-map-lt Bytes (steps r.unit r.inner) k 0 None (rw length-steps l)
+      ∙ get_or-map Bytes (steps r.unit r.inner) k 0 None (rw length-steps l)
       ∙ ap Bytes (at-steps r.unit r.inner k 0 l ∙ rw add-one)
 
   pub grouped-whole : (i : ℕ) → i < length (grouped r) → r.nones ≤ i → r.inner ≤ i - r.nones → get_or (grouped r) i None ≡ Whole
@@ -117,6 +114,6 @@ module _ (r : Group) where
       ∙ get_or-append-add (map Bytes (steps r.unit r.inner)) _ (k - r.inner) None
       ∙ get_or-replicate r.wholes (k - r.inner) Whole None j
 
-  -- a byte point of a small group fits
-  pub bytes_fit : (k : ℕ) → Small r → k < r.inner → (k + 1) * r.unit < 2 ^ 32
-  bytes_fit k s h = lt_of_le_of_lt (mul-le-mul_right r.unit (omega arith)) s.inner-fits
+  -- a byte point fits
+  pub bytes_fit : (k : ℕ) → k < r.inner → (k + 1) * r.unit < 2 ^ 32
+  bytes_fit k h = lt_of_le_of_lt (mul-le-mul_right r.unit (omega arith)) r.small.2

@@ -5,31 +5,37 @@ use Prim.Native.Nat.{ℕ, zero, suc}
 use native.Mathlib.Nat.{suc-ne-zero}
 use native.Mathlib.Omega.{arith}
 use borrow.Author.Tests.{ne_eqb}
+use Rattle.basics.specs.Replies.{number_in, answered}
 use Rattle.storage.specs.declared.Geometry.{Geometry}
 use Rattle.inject.specs.declared.Progress.{Progress}
 use Rattle.inject.specs.declared.Progress.TheVariants.{None, Bytes, Whole}
 use Rattle.inject.specs.declared.Interruption.{Interruption}
 use Rattle.inject.specs.declared.Interruption.TheVariants.{PowerLoss, Watchdog, Failure}
+use denote.Enum.Declared.{tag_of}
+use Rattle.inject.specs.contracts.Interruption.{the_type}
 use Rattle.inject.specs.declared.Injection.{Injection}
 use Rattle.inject.specs.Points.{point}
-use Rattle.inject.specs.Answers.{count_test, counted_by, counted, number_of_counted, place_test, found_by, found, number_of_found, progress_code, count_code, interruption_code}
+use Rattle.inject.specs.Answers.{count_test, counted, place_test, found, progress_code, count_code, interruption_code}
 
 -- ---- an answer's number is the one that the tests give
 
-counted-by : (number count : ℕ) → number_of_counted (counted_by number count) ≡ number
-counted-by zero count = refl
-counted-by (suc n) count = rw (ne_eqb (suc n) 0 (suc-ne-zero n))
-
-found-by : (number : ℕ) (p : Injection) → number_of_found (found_by number p) ≡ number
-found-by zero p = refl
-found-by (suc n) p = rw (ne_eqb (suc n) 0 (suc-ne-zero n))
+pub answered-number : {T : Type 0} → (n : ℕ) (x : T) → number_in (λ k. k) (answered n x) ≡ n
+answered-number zero x = refl
+answered-number (suc n) x = rw (ne_eqb (suc n) 0 (suc-ne-zero n))
 
 module _ (g : Geometry) (kinds offsets lens : List ℕ) where
-  pub count-number : number_of_counted (counted g kinds offsets lens) ≡ count_test g kinds offsets lens
-  count-number = counted-by (count_test g kinds offsets lens) _
+  pub count-number : number_in (λ n. n) (counted g kinds offsets lens) ≡ count_test g kinds offsets lens
+  count-number = answered-number (count_test g kinds offsets lens) _
 
-  pub place-number : (place : ℕ) → number_of_found (found g kinds offsets lens place) ≡ place_test g kinds offsets lens place
-  place-number place = found-by (place_test g kinds offsets lens place) _
+  pub place-number : (place : ℕ) → number_in (λ n. n) (found g kinds offsets lens place) ≡ place_test g kinds offsets lens place
+  place-number place = answered-number (place_test g kinds offsets lens place) _
+
+-- ---- `as u8` gives an interruption's code
+
+pub interruption-tag : (w : Interruption) → tag_of the_type w ≡ interruption_code w
+interruption-tag PowerLoss = refl
+interruption-tag Watchdog = refl
+interruption-tag Failure = refl
 
 -- ---- the codes lose nothing: two points with the same row are the same point
 

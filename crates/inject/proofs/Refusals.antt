@@ -1,34 +1,38 @@
--- The tests of a list of operations, one by one: what each way out of `refuse` answers, and what a list that passes satisfies.
+-- The tests of a list of operations: what each way out of `refuse` answers, and what a list that passes satisfies.
 -- Assumes nothing.
-use mathlib.Core.Path.{◌≡◌, refl}
-use mathlib.Core.Bool.{Bool, true, false}
+use mathlib.Core.Path.{◌≡◌, refl, sym, ◌∙◌}
+use mathlib.Core.Bool.{Bool, true, false, not, ◌&&◌, ◌||◌}
 use mathlib.Core.List.{List, [], ◌∷◌}
 use Prim.Native.Nat.{ℕ, ◌≤◌, ◌<◌}
 use lib.ListN.{length}
 use lib.Dec.{eqb, leb}
-use borrow.Author.Tests.{eq-eqb, ne_eqb, eqb-true, leb-true, le-leb, lt-leb}
-use Rattle.basics.specs.Tests.{unless, refuse_if, first_of}
+use Rattle.std.proofs.lemmas.Bool.{false≢true}
+use borrow.Author.Tests.{ne_eqb, eqb-true, leb-true, le-leb, lt-leb}
+use Rattle.basics.specs.Tests.{unless, first_of}
 use Rattle.basics.proofs.Tests.{first_of-zero, unless-zero}
 use Rattle.storage.specs.declared.Geometry.{Geometry}
-use Rattle.storage.specs.Geometry.{any_zero, no_power_of_two, unnested, geometry_test}
-use Rattle.storage.specs.Answers.{number_of_validated, answered}
+use Rattle.storage.specs.Geometry.{geometry_test}
 use Rattle.inject.specs.Ops.{known}
 use Rattle.inject.specs.Answers.{most, list_test}
 use Rattle.inject.specs.Steps.{Sound}
 
--- ---- the number that a geometry's check answers is the geometry's
+-- ---- the four tests of the columns, at once
 
-one_of_three : (a b c : Bool) → number_of_validated (answered (first_of (refuse_if a 1 ∷ refuse_if b 2 ∷ refuse_if c 3 ∷ [])))
-    ≡ first_of (refuse_if a 1 ∷ refuse_if b 2 ∷ refuse_if c 3 ∷ [])
-unfolding first_of refuse_if
-one_of_three true b c = refl
-one_of_three false true c = refl
-one_of_three false false true = refl
-one_of_three false false false = refl
+malformed : (a b e k : Bool) (ns : List ℕ) → (not (a && b && e) || not k) ≡ true → 12 ≡ first_of (0 ∷ unless a 12 ∷ unless b 12 ∷ unless e 12 ∷ unless k 12 ∷ ns)
+unfolding first_of unless
+malformed false b e k ns h = refl
+malformed true false e k ns h = refl
+malformed true true false k ns h = refl
+malformed true true true false ns h = refl
+malformed true true true true ns h = absurd (false≢true h)
 
-pub check-number : (g : Geometry) → number_of_validated (answered (geometry_test g)) ≡ geometry_test g
-unfolding geometry_test
-check-number g = one_of_three (any_zero g) (no_power_of_two g) (unnested g)
+well-formed : (a b e k : Bool) (ns : List ℕ) → (not (a && b && e) || not k) ≡ false → first_of ns ≡ first_of (0 ∷ unless a 12 ∷ unless b 12 ∷ unless e 12 ∷ unless k 12 ∷ ns)
+unfolding first_of unless
+well-formed true true true true ns h = refl
+well-formed false b e k ns h = absurd (false≢true (sym h))
+well-formed true false e k ns h = absurd (false≢true (sym h))
+well-formed true true false k ns h = absurd (false≢true (sym h))
+well-formed true true true false ns h = absurd (false≢true (sym h))
 
 -- ---- each way out
 
@@ -37,33 +41,25 @@ module _ (g : Geometry) (ks os ls : List ℕ) (equal : Bool) where
   unfolding list_test first_of
   stop-geometry n e h = rw (← e, ne_eqb n 0 h)
 
-  module _ (z : geometry_test g ≡ 0) where
-    pub stop-offsets : (length ks ≡ length os → ⊥) → 12 ≡ list_test g ks os ls equal
-    unfolding list_test first_of unless
-    stop-offsets h = simp (z, ne_eqb _ _ h)
+  -- whether the tests of the columns refuse
+  abbrev pub ill : Bool
+  ill = not (eqb (length ks) (length os) && eqb (length ks) (length ls) && equal) || not (known ks)
 
-    module _ (o : length ks ≡ length os) where
-      pub stop-lens : (length ks ≡ length ls → ⊥) → 12 ≡ list_test g ks os ls equal
-      unfolding list_test first_of unless
-      stop-lens h = simp (z, eq-eqb _ _ o, ne_eqb _ _ h)
+  module _ (z : 0 ≡ geometry_test g) where
+    pub stop-columns : ill ≡ true → 12 ≡ list_test g ks os ls equal
+    unfolding list_test
+    stop-columns h = rw (← z) (malformed (eqb (length ks) (length os)) (eqb (length ks) (length ls)) equal (known ks) _ h)
 
-      module _ (l : length ks ≡ length ls) where
-        pub stop-lent : equal ≡ false → 12 ≡ list_test g ks os ls equal
-        unfolding list_test first_of unless
-        stop-lent h = simp (z, eq-eqb _ _ o, eq-eqb _ _ l, h)
+    module _ (w : ill ≡ false) where
+      past-columns : first_of (unless (leb (length ks) most) 27 ∷ []) ≡ list_test g ks os ls equal
+      unfolding list_test
+      past-columns = rw (← z) (well-formed (eqb (length ks) (length os)) (eqb (length ks) (length ls)) equal (known ks) _ w)
 
-        module _ (e : equal ≡ true) where
-          pub stop-codes : known ks ≡ false → 12 ≡ list_test g ks os ls equal
-          unfolding list_test first_of unless
-          stop-codes h = simp (z, eq-eqb _ _ o, eq-eqb _ _ l, e, h)
+      pub stop-many : most < length ks → 27 ≡ list_test g ks os ls equal
+      stop-many h = let e : 27 ≡ first_of (unless (leb (length ks) most) 27 ∷ []) = (unfold first_of unless in simp (lt-leb _ _ h)) in e ∙ past-columns
 
-          pub stop-many : known ks ≡ true → most < length ks → 27 ≡ list_test g ks os ls equal
-          unfolding list_test first_of unless
-          stop-many k h = simp (z, eq-eqb _ _ o, eq-eqb _ _ l, e, k, lt-leb _ _ h)
-
-          pub passed : known ks ≡ true → length ks ≤ most → 0 ≡ list_test g ks os ls equal
-          unfolding list_test first_of unless
-          passed k h = simp (z, eq-eqb _ _ o, eq-eqb _ _ l, e, k, le-leb _ _ h)
+      pub passed : length ks ≤ most → 0 ≡ list_test g ks os ls equal
+      passed h = let e : 0 ≡ first_of (unless (leb (length ks) most) 27 ∷ []) = (unfold first_of unless in simp (le-leb _ _ h)) in e ∙ past-columns
 
 -- ---- what a list that is not refused satisfies
 

@@ -1,20 +1,19 @@
 -- The points under an interruption from row i on: what is left of a walk over the rows. Assumes nothing.
 use mathlib.Core.Path.{◌≡◌, sym, ap, ◌∙◌}
-use mathlib.Core.Bool.{true, ◌&&◌}
 use mathlib.Core.List.{List, [], ◌++◌, map}
 use Prim.Native.Nat.{ℕ, ◌+◌, ◌-◌, ◌≤◌, ◌<◌}
 use native.Mathlib.Numerals.{add-one}
 use lib.ListN.{length, get_or, drop, length-append, length-map, drop_of_length-le}
 use lib.Seq.{drop-cons}
-use lib.Dec.{ltb}
-use Rattle.basics.proofs.Lists.{get_or-map-lt}
+use Rattle.std.proofs.lemmas.List.{get_or-map}
 use Rattle.storage.specs.declared.Geometry.{Geometry}
 use Rattle.inject.specs.declared.Progress.TheVariants.{None}
 use Rattle.inject.specs.declared.Interruption.{Interruption}
 use Rattle.inject.specs.declared.Injection.{Injection}
-use Rattle.inject.specs.declared.Group.{Group}
-use Rattle.inject.specs.declared.Sought.TheVariants.{At}
-use Rattle.inject.specs.Ops.{ops_of, known}
+use Rattle.inject.specs.declared.Sequence.{Sequence}
+use Rattle.inject.specs.declared.group.Group.{Group}
+use Rattle.std.specs.Prelude.{Ok as At}
+use Rattle.inject.specs.Ops.{ops_of}
 use Rattle.inject.specs.Points.{progresses, point, under}
 use Rattle.inject.specs.Steps.{Sound, op_at, grouped, GroupOf, sought}
 use Rattle.inject.proofs.Searches.{sought-in, sought-past}
@@ -30,6 +29,10 @@ rest-cons g w i ks os ls h j k = rw (add-one, drop-cons ks i 0 h, drop-cons os i
 pub rest_end : (g : Geometry) (w : Interruption) (i : ℕ) (ks os ls : List ℕ) → length ks ≤ i → rest g w i ks os ls ≡ []
 unfolding under ops_of
 rest_end g w i ks os ls h = rw (drop_of_length-le ks h)
+
+-- a list that nothing refuses is sound
+pub sound : (s : Sequence) → Sound s.geometry s.ops.kinds.now s.ops.offsets.now s.ops.lens.now
+sound s = record { offsets-equal = s.sound.0; lens-equal = s.sound.1; few = s.sound.2 }
 
 -- a row of a sound list, and its group
 module _ (g : Geometry) (w : Interruption) (ks os ls : List ℕ) (s : Sound g ks os ls)
@@ -47,7 +50,7 @@ module _ (g : Geometry) (w : Interruption) (ks os ls : List ℕ) (s : Sound g ks
   rest_in n l =
       ap (λ (xs : List Injection). sought xs n) rest-step
       ∙ sought-in (map (point i w) (grouped r)) _ n (point i w None) (rw length-map l)
-      ∙ ap At (get_or-map-lt (point i w) (grouped r) n None (point i w None) l)
+      ∙ ap At (get_or-map (point i w) (grouped r) n None (point i w None) l)
 
   pub rest-past : (n m : ℕ) → m ≡ length (grouped r) → m ≤ n
       → sought (rest g w i ks os ls) n ≡ sought (rest g w (i + 1) ks os ls) (n - m)
@@ -56,13 +59,3 @@ module _ (g : Geometry) (w : Interruption) (ks os ls : List ℕ) (s : Sound g ks
       ap (λ (xs : List Injection). sought xs n) rest-step
       ∙ sought-past (map (point i w) (grouped r)) _ n (rw z l)
       ∙ rw z
-
--- ---- the column of kinds from row i on
-
-pub known-cons : (ks : List ℕ) (i : ℕ) → i < length ks → known (drop i ks) ≡ (ltb (get_or ks i 0) 3 && known (drop (i + 1) ks))
-unfolding known
-known-cons ks i h = rw (add-one, drop-cons ks i 0 h)
-
-pub known-end : (ks : List ℕ) (i : ℕ) → length ks ≤ i → known (drop i ks) ≡ true
-unfolding known
-known-end ks i h = rw (drop_of_length-le ks h)

@@ -7,9 +7,8 @@ use native.Mathlib.Numerals.{sub-one}
 use native.Mathlib.Omega.{arith}
 use lib.ListN.{length, get_or}
 use Rattle.inject.specs.declared.Injection.{Injection}
-use Rattle.inject.specs.declared.Sought.{Sought}
-use Rattle.inject.specs.declared.Sought.TheVariants.{At, Past}
-use Rattle.inject.specs.Steps.{sought, onward, lone_for}
+use Rattle.std.specs.Prelude.{Ok as At, Err as Past}
+use Rattle.inject.specs.Steps.{Sought, sought, onward, lone_for}
 
 -- ---- in the first part, or past it
 
@@ -37,14 +36,14 @@ onward-append (Past (suc n)) (x ∷ xs) ys = onward-append (Past n) xs ys
 pub onward-next : (b e : Sought) (xs ys : List Injection) → e ≡ onward b xs → onward b (xs ++ ys) ≡ onward e ys
 onward-next b e xs ys q = onward-append b xs ys ∙ ap (λ (f : Sought). onward f ys) (sym q)
 
-pub onward-one : (n : ℕ) (p : Injection) → n ≡ 0 → At p ≡ onward (Past n) (p ∷ [])
+pub onward-here : (n : ℕ) (p : Injection) → n ≡ 0 → At p ≡ sought (p ∷ []) n
 unfolding sought
-onward-one n p e = rw e
+onward-here n p e = rw e
 
-pub onward-two : (n : ℕ) (p : Injection) → (n ≡ 0 → ⊥) → Past (n - 1) ≡ onward (Past n) (p ∷ [])
+pub onward-one : (n : ℕ) (p : Injection) → (n ≡ 0 → ⊥) → Past (n - 1) ≡ sought (p ∷ []) n
 unfolding sought
-onward-two zero p h = absurd (h refl)
-onward-two (suc n) p h = rw sub-one
+onward-one zero p h = absurd (h refl)
+onward-one (suc n) p h = rw sub-one
 
 pub onward-none : (b : Sought) (n : ℕ) → (n ≡ 0 → ⊥) → b ≡ onward b (lone_for n)
 unfolding sought

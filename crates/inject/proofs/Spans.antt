@@ -1,12 +1,15 @@
 -- The inner multiples of a unit are its first ones: `(len - 1) / unit` of them. Assumes nothing.
 use mathlib.Core.Path.{◌≡◌, refl, ap, ◌∙◌}
 use mathlib.Core.Logic.{◌⊎◌, inl, inr, ⊎_elim}
+use mathlib.Core.Bool.{true, ◌||◌}
 use mathlib.Core.List.{[], append-nil}
 use Prim.Native.Nat.{ℕ, zero, suc, ◌+◌, ◌-◌, ◌*◌, ◌/◌, ◌%◌, ◌^◌, ◌<◌}
-use native.Mathlib.Nat.{suc-ne-zero, mod-zero, mod-lt, div-add-mod', eq-or-lt_of_le, div-eq_of_eq-mul_left, div-eq_of_lt-le, mul-mod_left, mul-add-mod_self_right, mod-eq_of_lt, suc-mul, add-mul, one-mul, zero-div, div-mul-le_self, not-suc-le-zero, lt_of_le_of_lt, mul-le-mul_right}
+use native.Mathlib.Nat.{suc-ne-zero, mod-zero, mod-lt, div-add-mod', eq-or-lt_of_le, div-eq_of_eq-mul_left, div-eq_of_lt-le, mul-mod_left, mul-add-mod_self_right, mod-eq_of_lt, suc-mul, add-mul, one-mul, zero-div, div-mul-le_self, not-suc-le-zero}
 use native.Mathlib.Numerals.{sub-one}
 use native.Mathlib.Omega.{arith}
+use lib.Dec.{eqb}
 use borrow.Author.Tests.{eq-eqb, ne_eqb}
+use Rattle.std.proofs.lemmas.Bool.{false≢true}
 use Rattle.inject.specs.Points.{multiples, inner}
 use Rattle.inject.specs.Steps.{steps}
 
@@ -57,15 +60,13 @@ unfolding multiples
 no-multiples zero = refl
 no-multiples (suc n) = simp (mod-zero, ne_eqb (suc n) 0 (suc-ne-zero n), append-nil) (no-multiples n)
 
-pub no_inner : (u n : ℕ) → u ≡ 0 → [] ≡ inner u n
+-- nor has a span of no bytes
+pub no_inner : (u n : ℕ) → (eqb n 0 || eqb u 0) ≡ true → [] ≡ inner u n
 unfolding inner
 no_inner u zero e = refl
-no_inner u (suc n) e = rw e (no-multiples n)
+no_inner zero (suc n) e = no-multiples n
+no_inner (suc u) (suc n) e = absurd (false≢true (simp (ne_eqb (suc n) 0 (suc-ne-zero n), ne_eqb (suc u) 0 (suc-ne-zero u)) at e))
 
 -- the last of them lies within the span
 pub steps-fit : (u n : ℕ) → n < 2 ^ 32 → (n - 1) / u * u < 2 ^ 32
 steps-fit u n h = omega (arith, div-mul-le_self (n - 1) u)
-
--- and so does each before it
-pub step_fits : (k u n : ℕ) → n * u < 2 ^ 32 → k < n → (k + 1) * u < 2 ^ 32
-step_fits k u n h l = lt_of_le_of_lt (mul-le-mul_right u (omega arith)) h

@@ -1,7 +1,8 @@
 -- What the public functions answer: their refusals in document 01's order, the count and the point at a place; and a point's
 -- codes. Definitions only; assumes nothing.
-use Rattle.std.specs.Prelude.{Bool, true, cond, List, [], ◌∷◌, ℕ, length, get_or, eqb, leb, ltb}
+use Rattle.std.specs.Prelude.{Bool, true, Result, List, [], ◌∷◌, ℕ, length, get_or, eqb, leb, ltb}
 use Rattle.basics.specs.Tests.{unless, first_of}
+use Rattle.basics.specs.Replies.{answered}
 use Rattle.storage.specs.declared.Geometry.{Geometry}
 use Rattle.storage.specs.Geometry.{geometry_test}
 use Rattle.inject.specs.declared.Progress.{Progress}
@@ -9,10 +10,6 @@ use Rattle.inject.specs.declared.Progress.TheVariants.{None, Bytes, Whole}
 use Rattle.inject.specs.declared.Interruption.{Interruption}
 use Rattle.inject.specs.declared.Interruption.TheVariants.{PowerLoss, Watchdog, Failure}
 use Rattle.inject.specs.declared.Injection.{Injection}
-use Rattle.inject.specs.declared.Counted.{Counted}
-use Rattle.inject.specs.declared.Counted.TheVariants.{Points, NotCounted}
-use Rattle.inject.specs.declared.Found.{Found}
-use Rattle.inject.specs.declared.Found.TheVariants.{Point, NotFound}
 use Rattle.inject.specs.Ops.{ops_of, known}
 use Rattle.inject.specs.Points.{opening, injections_of}
 
@@ -49,34 +46,19 @@ place_test g kinds offsets lens place =
 
 -- ---- how many
 
-abbrev pub counted_by : (number count : ℕ) → Counted
-counted_by number count = cond (eqb number 0) (Points count) (NotCounted number)
-
 -- how many crash points there are, or the number that refuses: beside lent columns of points, and alone
-abbrev pub counted_beside : Geometry → (kinds offsets lens : List ℕ) → (equal : Bool) → Counted
-counted_beside g kinds offsets lens equal = counted_by (list_test g kinds offsets lens equal) (length (points_of g kinds offsets lens))
+abbrev pub counted_beside : Geometry → (kinds offsets lens : List ℕ) → (equal : Bool) → Result ℕ ℕ
+counted_beside g kinds offsets lens equal = answered (list_test g kinds offsets lens equal) (length (points_of g kinds offsets lens))
 
-abbrev pub counted : Geometry → (kinds offsets lens : List ℕ) → Counted
-counted g kinds offsets lens = counted_by (count_test g kinds offsets lens) (length (points_of g kinds offsets lens))
-
--- "Where an answer is an enum, a definition gives this paper's number and values for each of its cases."
-abbrev pub number_of_counted : Counted → ℕ
-number_of_counted (Points count) = 0
-number_of_counted (NotCounted number) = number
+abbrev pub counted : Geometry → (kinds offsets lens : List ℕ) → Result ℕ ℕ
+counted g kinds offsets lens = answered (count_test g kinds offsets lens) (length (points_of g kinds offsets lens))
 
 -- ---- "A point can be had by place, from 0"
 
-abbrev pub found_by : (number : ℕ) → Injection → Found
-found_by number injection = cond (eqb number 0) (Point injection) (NotFound number)
-
 -- the list's element at the place, or the number that refuses
-abbrev pub found : Geometry → (kinds offsets lens : List ℕ) → (place : ℕ) → Found
+abbrev pub found : Geometry → (kinds offsets lens : List ℕ) → (place : ℕ) → Result Injection ℕ
 found g kinds offsets lens place =
-    found_by (place_test g kinds offsets lens place) (get_or (points_of g kinds offsets lens) place opening)
-
-abbrev pub number_of_found : Found → ℕ
-number_of_found (Point injection) = 0
-number_of_found (NotFound number) = number
+    answered (place_test g kinds offsets lens place) (get_or (points_of g kinds offsets lens) place opening)
 
 -- ---- a point as a row of columns
 

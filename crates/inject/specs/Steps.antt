@@ -1,6 +1,7 @@
 -- How the points are found: a group's points from four numbers, a search that goes on from part to part. Definitions only;
 -- assumes nothing.
-use Rattle.std.specs.Prelude.{◌≡◌, List, [], ◌∷◌, ◌++◌, map, ℕ, zero, suc, ◌*◌, ◌≤◌, ◌<◌, ◌^◌, length, get_or, replicate}
+use Rattle.std.specs.Prelude.{Ok as At, Err as Past}
+use Rattle.std.specs.Prelude.{◌≡◌, Result, List, [], ◌∷◌, ◌++◌, map, ℕ, zero, suc, ◌*◌, ◌≤◌, length, get_or, replicate}
 use Rattle.storage.specs.declared.Geometry.{Geometry}
 use Rattle.inject.specs.declared.Op.{Op}
 use Rattle.inject.specs.declared.Op.TheVariants.{Program, Erase, Barrier}
@@ -9,9 +10,7 @@ use Rattle.inject.specs.declared.Progress.TheVariants.{None, Bytes, Whole}
 use Rattle.inject.specs.declared.Interruption.{Interruption}
 use Rattle.inject.specs.declared.Interruption.TheVariants.{Watchdog}
 use Rattle.inject.specs.declared.Injection.{Injection}
-use Rattle.inject.specs.declared.Group.{Group}
-use Rattle.inject.specs.declared.Sought.{Sought}
-use Rattle.inject.specs.declared.Sought.TheVariants.{At, Past}
+use Rattle.inject.specs.declared.group.Group.{Group}
 use Rattle.inject.specs.Ops.{op_of}
 use Rattle.inject.specs.Points.{progresses, point}
 use Rattle.inject.specs.Answers.{most}
@@ -49,16 +48,9 @@ steps unit (suc k) = steps unit k ++ (suc k * unit ∷ [])
 unfoldable pub grouped : Group → List Progress
 grouped r = replicate r.nones None ++ (map Bytes (steps r.unit r.inner) ++ replicate r.wholes Whole)
 
--- a group's numbers are small enough to reckon with
-pub record Small (r : Group) : Type 0 where
-  pub nones-few : r.nones ≤ 1
-  pub wholes-few : r.wholes ≤ 1
-  pub inner-fits : r.inner * r.unit < 2 ^ 32
-
 -- it is an operation's
 pub record GroupOf (g : Geometry) (w : Interruption) (o : Op) (r : Group) : Type 0 where
   pub points : grouped r ≡ progresses g w o
-  pub small : Small r
 
 -- ---- the point that only an empty list has, by the number of operations
 
@@ -72,6 +64,9 @@ lone_for (suc n) = []
 -- ---- a search
 
 -- a part of a list searched for a place: the point there, or how far past the part the place lies
+abbrev pub Sought : Type 0
+Sought = Result Injection ℕ
+
 unfoldable pub sought : List Injection → ℕ → Sought
 sought [] n = Past n
 sought (x ∷ xs) zero = At x

@@ -6,15 +6,24 @@
 #![tactic(auto)]
 
 ghost use Rattle.std.specs.Prelude.{◌≡◌, [], ◌∷◌, ◌*◌, ◌≤◌, ◌<◌, ◌^◌, length, get_or, replicate};
+ghost use Rattle.basics.specs.Replies.{number_in, numbered};
+ghost use Rattle.refusals.specs.Numbers.{number_of};
 ghost use Rattle.inject.specs.Ops.{op_of, ops_of, known, len_of};
 ghost use Rattle.inject.specs.Points.{inner, whole_span, whole_point, under};
-ghost use Rattle.inject.specs.Answers.{list_test, points_of, counted_beside, counted, found};
-ghost use Rattle.inject.specs.Steps.{Sound, tear_unit, reset_unit, steps, grouped, Small, GroupOf, lone_point, lone_for, sought, onward};
+ghost use Rattle.inject.specs.Answers.{list_test, points_of, counted_beside, counted, found, progress_code, count_code};
+ghost use Rattle.inject.specs.Steps.{op_at, tear_unit, reset_unit, steps, grouped, GroupOf, lone_point, lone_for, sought, onward};
 
+mod group;
+
+pub use group::Group;
+use refusals::Refusal;
 use storage::Geometry;
 
+// As many operations as a list may have.
+const MOST: usize = 1024;
+
 // One operation of a write sequence: offsets and lengths only.
-#[derive(Clone, Copy)]
+#[derive(Clone, Copy, Debug, PartialEq, Eq)]
 pub enum Op {
     Program { offset: u32, len: u32 },
     Erase { offset: u32, len: u32 },
@@ -22,7 +31,7 @@ pub enum Op {
 }
 
 // How much of an operation reached the media.
-#[derive(Clone, Copy)]
+#[derive(Clone, Copy, Debug, PartialEq, Eq)]
 pub enum Progress {
     // None of it.
     None,
@@ -32,8 +41,8 @@ pub enum Progress {
     Whole,
 }
 
-// What the interruption looks like to the writer.
-#[derive(Clone, Copy)]
+// What the interruption looks like to the writer. `as u8` gives its code in a column.
+#[derive(Clone, Copy, Debug, PartialEq, Eq)]
 pub enum Interruption {
     // The power went away: nothing after it runs.
     PowerLoss,
@@ -44,7 +53,7 @@ pub enum Interruption {
 }
 
 // One crash point: which operation, how far into it, and what the writer sees.
-#[derive(Clone, Copy)]
+#[derive(Clone, Copy, Debug, PartialEq, Eq)]
 pub struct Injection {
     // The operation's index. For the point before the whole list it is 0, also where the list is empty.
     pub op: usize,
@@ -52,65 +61,68 @@ pub struct Injection {
     pub interruption: Interruption,
 }
 
-// How many crash points a list has, or document 01's number that refuses it.
+// A list of operations, as the caller lends it: a row of the three columns for each.
 #[derive(Clone, Copy)]
-pub enum Counted {
-    Points(u64),
-    NotCounted(u32),
+pub struct OpsRef<'a> {
+    pub kinds: &'a [u8],
+    pub offsets: &'a [u32],
+    pub lens: &'a [u32],
 }
 
-// The crash point at a place, or the number that refuses it.
+// A list of operations that nothing refuses, on its geometry.
 #[derive(Clone, Copy)]
-pub enum Found {
-    Point(Injection),
-    NotFound(u32),
+pub struct Sequence<'a> {
+    pub ops: OpsRef<'a>,
+    pub geometry: Geometry,
+    ghost sound: { (length ops.kinds.now ≡ length ops.offsets.now) × (length ops.kinds.now ≡ length ops.lens.now) × (length ops.kinds.now ≤ 1024) },
 }
 
-// One operation's points under one interruption: how many none points (0 or 1), how many byte points, which are the first
-// multiples of a unit, and how many whole points (0 or 1).
-#[derive(Clone, Copy)]
-pub struct Group {
-    pub nones: u32,
-    pub unit: u32,
-    pub inner: u32,
-    pub wholes: u32,
+impl Progress {
+    // Its code in a column: 0 none, 1 a byte count, 2 whole. (`as` takes no enum whose variants hold a value.)
+    pub fn code(self) -> u8
+        ensures { result ≡ progress_code self }
+    {
+        match self {
+            Progress::None => 0,
+            Progress::Bytes(_) => 1,
+            Progress::Whole => 2,
+        }
+    }
+
+    // Its byte count, 0 where it has none.
+    pub fn byte_count(self) -> u32
+        ensures { result ≡ count_code self }
+    {
+        match self {
+            Progress::Bytes(count) => count,
+            _ => 0,
+        }
+    }
 }
 
-// A part of the list, searched for a place: the point, or how far past the part the place lies.
-#[derive(Clone, Copy)]
-enum Sought {
-    At(Injection),
-    Past(u64),
-}
-
-// A row of the three columns as an operation.
+// A row of the three columns as an operation. Not a TryFrom: `refuse` told a code without a meaning before, and here it is a barrier.
 fn op_of(kind: u8, offset: u32, len: u32) -> Op
     ensures { result ≡ op_of kind offset len }
 {
-    if kind == 0 {
-        return Op::Program { offset, len };
+    match kind {
+        0 => Op::Program { offset, len },
+        1 => Op::Erase { offset, len },
+        _ => Op::Barrier,
     }
-    if kind == 1 {
-        return Op::Erase { offset, len };
-    }
-    Op::Barrier
 }
 
 // How many whole points a span has: where it moves no bytes, all of it is the same as none of it.
 fn whole_span(len: u32) -> u32
     ensures { (replicate result Progress.Whole ≡ whole_span len) × (result ≤ 1) }
 {
-    if len == 0 { 0 } else { 1 }
+    u32::from(len != 0)
 }
 
 // How many multiples of a unit lie above 0 and below a length; none of the unit 0.
 fn inner_count(unit: u32, len: u32) -> u32
     ensures { (steps unit result ≡ inner unit len) × (result * unit < 2 ^ 32) }
 {
-    if len == 0 {
-        return 0;
-    }
-    if unit == 0 {
+    if (len == 0) | (unit == 0) {
         return 0;
     }
     (len - 1) / unit
@@ -121,8 +133,7 @@ impl Op {
         ensures { result ≡ len_of self }
     {
         match self {
-            Op::Program { offset: _, len } => len,
-            Op::Erase { offset: _, len } => len,
+            Op::Program { len, .. } | Op::Erase { len, .. } => len,
             Op::Barrier => 0,
         }
     }
@@ -133,9 +144,8 @@ impl Op {
         ensures { result ≡ tear_unit geometry self }
     {
         match self {
-            Op::Program { offset: _, len: _ } => 1,
-            Op::Erase { offset: _, len: _ } => geometry.erase_size,
-            Op::Barrier => 1,
+            Op::Program { .. } | Op::Barrier => 1,
+            Op::Erase { .. } => geometry.erase_size,
         }
     }
 
@@ -144,8 +154,8 @@ impl Op {
         ensures { result ≡ reset_unit geometry self }
     {
         match self {
-            Op::Program { offset: _, len: _ } => geometry.program_size,
-            Op::Erase { offset: _, len: _ } => geometry.erase_size,
+            Op::Program { .. } => geometry.program_size,
+            Op::Erase { .. } => geometry.erase_size,
             Op::Barrier => 1,
         }
     }
@@ -156,11 +166,9 @@ impl Op {
         ensures { (replicate result Progress.Whole ≡ whole_point cause self) × (result ≤ 1) }
     {
         match self {
-            Op::Program { offset: _, len } => whole_span(len),
-            Op::Erase { offset: _, len } => whole_span(len),
+            Op::Program { len, .. } | Op::Erase { len, .. } => whole_span(len),
             Op::Barrier => match cause {
-                Interruption::PowerLoss => 1,
-                Interruption::Watchdog => 1,
+                Interruption::PowerLoss | Interruption::Watchdog => 1,
                 Interruption::Failure => 0,
             },
         }
@@ -173,195 +181,75 @@ pub fn group_of(kind: u8, offset: u32, len: u32, geometry: Geometry, cause: Inte
     ensures { GroupOf geometry cause (op_of kind offset len) result }
 {
     let op = op_of(kind, offset, len);
-    let span = op.len();
-    let wholes = op.wholes(cause);
-    match cause {
-        Interruption::PowerLoss => {
-            let unit = op.tear_unit(geometry);
-            let inner = inner_count(unit, span);
-            Group {
-                nones: 0,
-                unit,
-                inner,
-                wholes,
-            }
-        }
-        Interruption::Watchdog => {
-            let unit = op.reset_unit(geometry);
-            let inner = inner_count(unit, span);
-            Group {
-                nones: 1,
-                unit,
-                inner,
-                wholes,
-            }
-        }
-        Interruption::Failure => {
-            let unit = op.tear_unit(geometry);
-            let inner = inner_count(unit, span);
-            Group {
-                nones: 1,
-                unit,
-                inner,
-                wholes,
-            }
-        }
+    let (nones, unit) = match cause {
+        Interruption::PowerLoss => (0, op.tear_unit(geometry)),
+        Interruption::Watchdog => (1, op.reset_unit(geometry)),
+        Interruption::Failure => (1, op.tear_unit(geometry)),
+    };
+    Group {
+        nones,
+        unit,
+        inner: inner_count(unit, op.len()),
+        wholes: op.wholes(cause),
     }
 }
 
-// How many points a group has.
-fn size(group: Group) -> u64
-    requires { Small group }
-    ensures { (result ≡ length (grouped group)) × (result ≤ 4294967297) }
-{
-    let nones = group.nones as u64;
-    let inner = group.inner as u64;
-    let wholes = group.wholes as u64;
-    nones + inner + wholes
-}
+impl Group {
+    // How many points a group has.
+    fn size(self) -> u64
+        ensures { (result ≡ length (grouped self)) × (result ≤ 4294967297) }
+    {
+        self.nones as u64 + self.inner as u64 + self.wholes as u64
+    }
 
-// A group's point at a place. Nothing is walked: the place tells which multiple of the unit it is.
-fn progress_at(group: Group, place: u64) -> Progress
-    requires { (Small group) × (place < length (grouped group)) }
-    ensures { result ≡ get_or (grouped group) place Progress.None }
-{
-    let nones = group.nones as u64;
-    if place < nones {
-        return Progress::None;
+    // A group's point at a place. Nothing is walked: the place tells which multiple of the unit it is.
+    fn progress_at(self, place: u64) -> Progress
+        requires { place < length (grouped self) }
+        ensures { result ≡ get_or (grouped self) place Progress.None }
+    {
+        let nones = self.nones as u64;
+        if place < nones {
+            return Progress::None;
+        }
+        let step = place - nones;
+        if step < self.inner as u64 {
+            let bytes = (step + 1) * self.unit as u64;
+            return Progress::Bytes(bytes as u32);
+        }
+        Progress::Whole
     }
-    let inner = group.inner as u64;
-    let step = place - nones;
-    if step < inner {
-        let bytes = (step + 1) * group.unit as u64;
-        return Progress::Bytes(bytes as u32);
-    }
-    Progress::Whole
 }
 
 // Whether every code of the column has a meaning.
 fn all_known(kinds: &[u8]) -> bool
     ensures { result ≡ known kinds.now }
 {
-    let mut i: usize = 0;
-    while i < kinds.len() {
-        if kinds[i] >= 3 {
-            return false;
-        }
-        i += 1;
-    }
-    true
-}
-
-// The number that refuses a list of operations, or 0. `equal` tells whether the columns lent for points are of one length.
-fn refuse(kinds: &[u8], offsets: &[u32], lens: &[u32], geometry: Geometry, equal: bool) -> u32
-    ensures { result ≡ list_test geometry kinds.now offsets.now lens.now equal }
-{
-    let checked = geometry.check();
-    let number = checked.refusal();
-    if number != 0 {
-        return number;
-    }
-    if kinds.len() != offsets.len() {
-        return 12;
-    }
-    if kinds.len() != lens.len() {
-        return 12;
-    }
-    if !equal {
-        return 12;
-    }
-    let meant = all_known(kinds);
-    if !meant {
-        return 12;
-    }
-    if kinds.len() > 1024 {
-        return 27;
-    }
-    0
-}
-
-// How many points the operations have under an interruption.
-fn total(
-    kinds: &[u8],
-    offsets: &[u32],
-    lens: &[u32],
-    geometry: Geometry,
-    cause: Interruption,
-) -> u64
-    requires { Sound geometry kinds.now offsets.now lens.now }
-    ensures { (result ≡ length (under geometry cause 0 (ops_of kinds.now offsets.now lens.now))) × (result ≤ 4294967297 * 1024) }
-{
-    let mut sum: u64 = 0;
-    let mut i: usize = 0;
-    while i < kinds.len() {
-        let group = group_of(kinds[i], offsets[i], lens[i], geometry, cause);
-        sum += size(group);
-        i += 1;
-    }
-    sum
+    kinds.iter().all(|kind| *kind < 3)
 }
 
 // How many watchdog points a list has before those of its operations: one, if it is empty.
 pub fn lone_count(operations: usize) -> u32
     ensures { (replicate result lone_point ≡ lone_for operations) × (result ≤ 1) }
 {
-    if operations == 0 { 1 } else { 0 }
+    u32::from(operations == 0)
 }
 
-// How many points a list that is not refused has. A u64 holds three totals of 1,024 operations of any u32 length.
-fn count(kinds: &[u8], offsets: &[u32], lens: &[u32], geometry: Geometry) -> u64
-    requires { Sound geometry kinds.now offsets.now lens.now }
-    ensures { result ≡ length (points_of geometry kinds.now offsets.now lens.now) }
-{
-    let lost = total(kinds, offsets, lens, geometry, Interruption::PowerLoss);
-    let alone = lone_count(kinds.len()) as u64;
-    let reset = total(kinds, offsets, lens, geometry, Interruption::Watchdog);
-    let failed = total(kinds, offsets, lens, geometry, Interruption::Failure);
-    1 + lost + alone + reset + failed
-}
-
-// How many crash points the operations have, for a caller who lends columns too: `equal` tells whether they are of one length.
-pub fn count_beside(
-    kinds: &[u8],
-    offsets: &[u32],
-    lens: &[u32],
-    geometry: Geometry,
-    equal: bool,
-) -> Counted
-    ensures { result ≡ counted_beside geometry kinds.now offsets.now lens.now equal }
-{
-    let refused = refuse(kinds, offsets, lens, geometry, equal);
-    if refused != 0 {
-        return Counted::NotCounted(refused);
-    }
-    let points = count(kinds, offsets, lens, geometry);
-    Counted::Points(points)
-}
-
-// How many crash points the operations have.
-pub fn injection_count(kinds: &[u8], offsets: &[u32], lens: &[u32], geometry: Geometry) -> Counted
-    ensures { result ≡ counted geometry kinds.now offsets.now lens.now }
-{
-    count_beside(kinds, offsets, lens, geometry, true)
-}
-
-// A search goes on: in a list of one point.
-fn seek_one(before: Sought, injection: Injection) -> Sought
+// A search goes on: in a list of one point. A search has found its point, or tells how far past the points so far it lies.
+fn seek_one(before: Result<Injection, u64>, injection: Injection) -> Result<Injection, u64>
     ensures { result ≡ onward before (injection ∷ []) }
 {
-    match before {
-        Sought::At(earlier) => Sought::At(earlier),
-        Sought::Past(left) => {
-            if left == 0 {
-                return Sought::At(injection);
-            }
-            Sought::Past(left - 1)
-        }
+    let Err(left) = before else {
+        return before;
+    };
+    if left == 0 {
+        Ok(injection)
+    } else {
+        Err(left - 1)
     }
 }
 
 // A search goes on: at the point that only an empty list has.
-fn seek_lone(before: Sought, operations: usize) -> Sought
+fn seek_lone(before: Result<Injection, u64>, operations: usize) -> Result<Injection, u64>
     ensures { result ≡ onward before (lone_for operations) }
 {
     if operations != 0 {
@@ -377,88 +265,131 @@ fn seek_lone(before: Sought, operations: usize) -> Sought
     )
 }
 
-// A search in the operations' points under an interruption.
-fn seek_groups(
-    kinds: &[u8],
-    offsets: &[u32],
-    lens: &[u32],
-    geometry: Geometry,
-    cause: Interruption,
-    place: u64,
-) -> Sought
-    requires { Sound geometry kinds.now offsets.now lens.now }
-    ensures { result ≡ sought (under geometry cause 0 (ops_of kinds.now offsets.now lens.now)) place }
-{
-    let mut left = place;
-    let mut i: usize = 0;
-    while i < kinds.len() {
-        let group = group_of(kinds[i], offsets[i], lens[i], geometry, cause);
-        let points = size(group);
-        if left < points {
-            let progress = progress_at(group, left);
-            return Sought::At(Injection {
-                op: i,
-                progress,
-                interruption: cause,
-            });
+impl OpsRef<'_> {
+    // What refuses a list of operations. `equal` tells whether the columns lent for points are of one length.
+    fn refuse(&self, geometry: Geometry, equal: bool) -> Result<(), Refusal>
+        ensures { number_in number_of result ≡ list_test geometry self.now.kinds.now self.now.offsets.now self.now.lens.now equal }
+    {
+        geometry.check()?;
+        let operations = self.kinds.len();
+        let even = (operations == self.offsets.len()) & (operations == self.lens.len()) & equal;
+        if !even | !all_known(self.kinds) {
+            return Err(Refusal::MalformedColumns);
         }
-        left -= points;
-        i += 1;
+        if operations > MOST {
+            return Err(Refusal::TooManyOperations);
+        }
+        Ok(())
     }
-    Sought::Past(left)
+
+    // How many crash points the operations have, for a caller who lends columns too: `equal` tells whether they are of one
+    // length.
+    pub fn count_beside(&self, geometry: Geometry, equal: bool) -> Result<u64, Refusal>
+        ensures { numbered number_of result ≡ counted_beside geometry self.now.kinds.now self.now.offsets.now self.now.lens.now equal }
+    {
+        self.refuse(geometry, equal)?;
+        let sequence = Sequence {
+            ops: *self,
+            geometry,
+        };
+        Ok(sequence.count())
+    }
+
+    // How many crash points the operations have.
+    pub fn injection_count(&self, geometry: Geometry) -> Result<u64, Refusal>
+        ensures { numbered number_of result ≡ counted geometry self.now.kinds.now self.now.offsets.now self.now.lens.now }
+    {
+        self.count_beside(geometry, true)
+    }
+
+    // The crash point at a place, from 0. The work grows with the operations, not with the points.
+    pub fn injection_at(&self, geometry: Geometry, place: u64) -> Result<Injection, Refusal>
+        ensures { numbered number_of result ≡ found geometry self.now.kinds.now self.now.offsets.now self.now.lens.now place }
+    {
+        self.refuse(geometry, true)?;
+        let sequence = Sequence {
+            ops: *self,
+            geometry,
+        };
+        sequence.point_at(place).map_err(|_| Refusal::NoSuchPlace)
+    }
 }
 
-// A search goes on: in the operations' points under an interruption.
-fn seek(
-    before: Sought,
-    kinds: &[u8],
-    offsets: &[u32],
-    lens: &[u32],
-    geometry: Geometry,
-    cause: Interruption,
-) -> Sought
-    requires { Sound geometry kinds.now offsets.now lens.now }
-    ensures { result ≡ onward before (under geometry cause 0 (ops_of kinds.now offsets.now lens.now)) }
-{
-    match before {
-        Sought::At(earlier) => Sought::At(earlier),
-        Sought::Past(left) => seek_groups(kinds, offsets, lens, geometry, cause, left),
+impl Sequence<'_> {
+    // The points of the operation in a row, under an interruption.
+    pub fn group_at(&self, row: usize, cause: Interruption) -> Group
+        requires { row < length self.now.ops.kinds.now }
+        ensures { GroupOf self.now.geometry cause (op_at self.now.ops.kinds.now self.now.ops.offsets.now self.now.ops.lens.now row) result }
+    {
+        let ops = self.ops;
+        group_of(
+            ops.kinds[row],
+            ops.offsets[row],
+            ops.lens[row],
+            self.geometry,
+            cause,
+        )
     }
-}
 
-// The crash point at a place, from 0. The work grows with the operations, not with the points.
-pub fn injection_at(
-    kinds: &[u8],
-    offsets: &[u32],
-    lens: &[u32],
-    geometry: Geometry,
-    place: u64,
-) -> Found
-    ensures { result ≡ found geometry kinds.now offsets.now lens.now place }
-{
-    let refused = refuse(kinds, offsets, lens, geometry, true);
-    if refused != 0 {
-        return Found::NotFound(refused);
+    // How many points the operations have under an interruption.
+    fn total(&self, cause: Interruption) -> u64
+        ensures { (result ≡ length (under self.now.geometry cause 0 (ops_of self.now.ops.kinds.now self.now.ops.offsets.now self.now.ops.lens.now))) × (result ≤ 4294967297 * 1024) }
+    {
+        let mut sum: u64 = 0;
+        for i in 0..self.ops.kinds.len() {
+            let group = self.group_at(i, cause);
+            sum += group.size();
+        }
+        sum
     }
-    let first = Injection {
-        op: 0,
-        progress: Progress::None,
-        interruption: Interruption::PowerLoss,
-    };
-    let opened = seek_one(Sought::Past(place), first);
-    let lost = seek(
-        opened,
-        kinds,
-        offsets,
-        lens,
-        geometry,
-        Interruption::PowerLoss,
-    );
-    let lone = seek_lone(lost, kinds.len());
-    let reset = seek(lone, kinds, offsets, lens, geometry, Interruption::Watchdog);
-    let failed = seek(reset, kinds, offsets, lens, geometry, Interruption::Failure);
-    match failed {
-        Sought::At(injection) => Found::Point(injection),
-        Sought::Past(_) => Found::NotFound(11),
+
+    // How many points the list has. A u64 holds three totals of 1,024 operations of any u32 length.
+    fn count(&self) -> u64
+        ensures { result ≡ length (points_of self.now.geometry self.now.ops.kinds.now self.now.ops.offsets.now self.now.ops.lens.now) }
+    {
+        let lost = self.total(Interruption::PowerLoss);
+        let alone = lone_count(self.ops.kinds.len()) as u64;
+        let reset = self.total(Interruption::Watchdog);
+        let failed = self.total(Interruption::Failure);
+        1 + lost + alone + reset + failed
+    }
+
+    // A search goes on: in the operations' points under an interruption.
+    fn seek(&self, before: Result<Injection, u64>, cause: Interruption) -> Result<Injection, u64>
+        ensures { result ≡ onward before (under self.now.geometry cause 0 (ops_of self.now.ops.kinds.now self.now.ops.offsets.now self.now.ops.lens.now)) }
+    {
+        let Err(mut left) = before else {
+            return before;
+        };
+        for i in 0..self.ops.kinds.len() {
+            let group = self.group_at(i, cause);
+            let points = group.size();
+            if left < points {
+                let progress = group.progress_at(left);
+                return Ok(Injection {
+                    op: i,
+                    progress,
+                    interruption: cause,
+                });
+            }
+            left -= points;
+        }
+        Err(left)
+    }
+
+    // A search in the whole list, part by part. Not by `or_else`: a proof learns nothing of a closure that calls a method of `self`.
+    fn point_at(&self, place: u64) -> Result<Injection, u64>
+        ensures { result ≡ sought (points_of self.now.geometry self.now.ops.kinds.now self.now.ops.offsets.now self.now.ops.lens.now) place }
+    {
+        let first = Injection {
+            op: 0,
+            progress: Progress::None,
+            interruption: Interruption::PowerLoss,
+        };
+        let opened = seek_one(Err(place), first);
+        let lost = self.seek(opened, Interruption::PowerLoss);
+        let lone = seek_lone(lost, self.ops.kinds.len());
+        let reset = self.seek(lone, Interruption::Watchdog);
+        self.seek(reset, Interruption::Failure)
     }
 }

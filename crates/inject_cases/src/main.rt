@@ -6,10 +6,11 @@
 // The tables and the order of the cases are those of `sample` in tests/differential/src/inject.rs.
 #![tactic(auto)]
 
-ghost use Rattle.std.specs.Prelude.{◌≡◌, ◌≤◌, ◌<◌, length};
+ghost use Rattle.std.specs.Prelude.{◌≤◌, ◌<◌};
 
-use inject::{Counted, Found, Injection, Interruption, Progress};
-use inject_columns::Written;
+use basics::Numbered;
+use inject::{Injection, OpsRef};
+use inject_columns::PointsMut;
 use std::io;
 use storage::Geometry;
 
@@ -18,62 +19,31 @@ const KINDS: [u8; 7] = [0, 0, 0, 1, 1, 1, 2];
 
 const LENS: [u32; 7] = [0, 1, 5, 0, 8, 16, 0];
 
-// A number and what stands after it.
-fn print(rt: &impl Print, n: u64, after: &[u8; 1]) -> io::Result<()> {
-    print!(rt; "{n}")?;
-    rt.write_all(after)
+// A number and a blank.
+fn print<N: Into<u64>>(rt: &impl Print, n: N) -> io::Result<()> {
+    let n: u64 = n.into();
+    print!(rt; "{n} ")
 }
 
-// A byte and a blank, a u32 and a blank.
-fn print_u8(rt: &impl Print, n: u8) -> io::Result<()> {
-    print(rt, n as u64, b" ")
-}
-
-fn print_u32(rt: &impl Print, n: u32) -> io::Result<()> {
-    print(rt, n as u64, b" ")
-}
-
-fn progress_code(progress: Progress) -> u64 {
-    match progress {
-        Progress::None => 0,
-        Progress::Bytes(_) => 1,
-        Progress::Whole => 2,
-    }
-}
-
-fn count_code(progress: Progress) -> u64 {
-    match progress {
-        Progress::None => 0,
-        Progress::Bytes(count) => count as u64,
-        Progress::Whole => 0,
-    }
-}
-
-fn interruption_code(interruption: Interruption) -> u64 {
-    match interruption {
-        Interruption::PowerLoss => 0,
-        Interruption::Watchdog => 1,
-        Interruption::Failure => 2,
-    }
+// A number that ends the line.
+fn print_last<N: Into<u64>>(rt: &impl Print, n: N) -> io::Result<()> {
+    let n: u64 = n.into();
+    println!(rt; "{n}")
 }
 
 fn print_injection(rt: &impl Print, injection: Injection) -> io::Result<()> {
-    let progress = injection.progress;
-    let interruption = injection.interruption;
-    print(rt, injection.op as u64, b" ")?;
-    print(rt, progress_code(progress), b" ")?;
-    print(rt, count_code(progress), b" ")?;
-    print(rt, interruption_code(interruption), b" ")
+    print(rt, injection.op as u64)?;
+    print(rt, injection.progress.code())?;
+    print(rt, injection.progress.byte_count())?;
+    print(rt, injection.interruption as u8)
 }
 
 // The operations, a row of three numbers for each.
-fn print_operations(rt: &impl Print, kinds: &[u8], offsets: &[u32], lens: &[u32]) -> io::Result<()>
-    requires { (length kinds.now ≡ length offsets.now) × (length kinds.now ≡ length lens.now) }
-{
-    for row in 0..kinds.len() {
-        print_u8(rt, kinds[row])?;
-        print_u32(rt, offsets[row])?;
-        print_u32(rt, lens[row])?;
+fn print_operations(rt: &impl Print, list: &OpsRef<'_>) -> io::Result<()> {
+    for ((kind, offset), len) in list.kinds.iter().zip(list.offsets).zip(list.lens) {
+        print(rt, *kind)?;
+        print(rt, *offset)?;
+        print(rt, *len)?;
     }
     Ok(())
 }
@@ -81,132 +51,80 @@ fn print_operations(rt: &impl Print, kinds: &[u8], offsets: &[u32], lens: &[u32]
 // The point at a place, or the number that refuses it, which ends the line.
 fn print_place(
     rt: &impl Print,
-    kinds: &[u8],
-    offsets: &[u32],
-    lens: &[u32],
+    list: &OpsRef<'_>,
     geometry: Geometry,
     place: u64,
 ) -> io::Result<()> {
-    let found = inject::injection_at(kinds, offsets, lens, geometry, place);
-    match found {
-        Found::Point(injection) => print_injection(rt, injection),
-        Found::NotFound(number) => print(rt, number as u64, b"\n"),
+    match list.injection_at(geometry, place) {
+        Ok(injection) => print_injection(rt, injection),
+        Err(refusal) => print_last(rt, refusal.number()),
     }
 }
 
 // Every place, and the one past the last.
 fn print_places(
     rt: &impl Print,
-    kinds: &[u8],
-    offsets: &[u32],
-    lens: &[u32],
+    list: &OpsRef<'_>,
     geometry: Geometry,
     points: u64,
 ) -> io::Result<()> {
     for place in 0..points {
-        print_place(rt, kinds, offsets, lens, geometry, place)?;
+        print_place(rt, list, geometry, place)?;
     }
-    print_place(rt, kinds, offsets, lens, geometry, points)
-}
-
-// A row of the columns. No list here has more points than they have rows.
-fn print_row(
-    rt: &impl Print,
-    ops: &[u32; 64],
-    progresses: &[u8; 64],
-    counts: &[u32; 64],
-    interruptions: &[u8; 64],
-    row: usize,
-) -> io::Result<()> {
-    if row < 64 {
-        print_u32(rt, ops[row])?;
-        print_u8(rt, progresses[row])?;
-        print_u32(rt, counts[row])?;
-        print_u8(rt, interruptions[row])?;
-    }
-    Ok(())
+    print_place(rt, list, geometry, points)
 }
 
 // The rows that were written, and how many.
-fn print_rows(
-    rt: &impl Print,
-    ops: &[u32; 64],
-    progresses: &[u8; 64],
-    counts: &[u32; 64],
-    interruptions: &[u8; 64],
-    rows: usize,
-) -> io::Result<()> {
-    for row in 0..rows {
-        print_row(rt, ops, progresses, counts, interruptions, row)?;
+fn print_rows(rt: &impl Print, points: &PointsMut<'_>, rows: usize) -> io::Result<()> {
+    let numbers = points.ops.iter().zip(&*points.progresses);
+    let causes = points.counts.iter().zip(&*points.interruptions);
+    for ((op, progress), (count, interruption)) in numbers.zip(causes).take(rows) {
+        print(rt, *op)?;
+        print(rt, *progress)?;
+        print(rt, *count)?;
+        print(rt, *interruption)?;
     }
-    print(rt, rows as u64, b"\n")
+    print_last(rt, rows as u64)
 }
 
-// Every point from the columns, or the number that refuses them.
-fn print_columns(
-    rt: &impl Print,
-    kinds: &[u8],
-    offsets: &[u32],
-    lens: &[u32],
-    geometry: Geometry,
-) -> io::Result<()> {
-    let mut ops = [0u32; 64];
-    let mut progresses = [0u8; 64];
-    let mut counts = [0u32; 64];
-    let mut interruptions = [0u8; 64];
-    let written = inject_columns::injections(
-        kinds,
-        offsets,
-        lens,
-        geometry,
-        &mut ops,
-        &mut progresses,
-        &mut counts,
-        &mut interruptions,
-    );
-    match written {
-        Written::All(rows) => print_rows(rt, &ops, &progresses, &counts, &interruptions, rows),
-        Written::NotWritten(number) => print(rt, number as u64, b"\n"),
+// Every point from the columns, or the number that refuses them. No list here has more points than they have rows.
+fn print_columns(rt: &impl Print, list: &OpsRef<'_>, geometry: Geometry) -> io::Result<()> {
+    let mut points = PointsMut {
+        ops: &mut [0u32; 64],
+        progresses: &mut [0u8; 64],
+        counts: &mut [0u32; 64],
+        interruptions: &mut [0u8; 64],
+    };
+    match inject_columns::injections(list, geometry, &mut points) {
+        Ok(rows) => print_rows(rt, &points, rows),
+        Err(refusal) => print_last(rt, refusal.number()),
     }
 }
 
-fn print_list(
-    rt: &impl Print,
-    kinds: &[u8],
-    offsets: &[u32],
-    lens: &[u32],
-    geometry: Geometry,
-) -> io::Result<()>
-    requires { (length kinds.now ≡ length offsets.now) × (length kinds.now ≡ length lens.now) }
-{
-    print_u32(rt, geometry.erase_size)?;
-    print_u32(rt, geometry.program_size)?;
-    print_operations(rt, kinds, offsets, lens)?;
-    let counted = inject::injection_count(kinds, offsets, lens, geometry);
-    match counted {
-        Counted::Points(points) => {
-            print(rt, points, b"\n")?;
-            print_places(rt, kinds, offsets, lens, geometry, points)?;
+fn print_list(rt: &impl Print, list: &OpsRef<'_>, geometry: Geometry) -> io::Result<()> {
+    print(rt, geometry.erase_size)?;
+    print(rt, geometry.program_size)?;
+    print_operations(rt, list)?;
+    match list.injection_count(geometry) {
+        Ok(points) => {
+            print_last(rt, points)?;
+            print_places(rt, list, geometry, points)?;
         }
-        Counted::NotCounted(number) => print(rt, number as u64, b"\n")?,
+        Err(refusal) => print_last(rt, refusal.number())?,
     }
-    print_columns(rt, kinds, offsets, lens, geometry)
+    print_columns(rt, list, geometry)
 }
 
 // How many operations the list has.
 fn operations_of(list: usize) -> usize
     ensures { result ≤ 3 }
 {
-    if list == 0 {
-        return 0;
+    match list {
+        0 => 0,
+        1..8 => 1,
+        8..57 => 2,
+        _ => 3,
     }
-    if list < 8 {
-        return 1;
-    }
-    if list < 57 {
-        return 2;
-    }
-    3
 }
 
 // Which operation stands first in the list.
@@ -214,13 +132,11 @@ fn first_of(list: usize) -> usize
     requires { list < 106 }
     ensures { result < 7 }
 {
-    if list < 8 {
-        return (list + 6) % 7;
+    match list {
+        0..8 => (list + 6) % 7,
+        8..57 => (list - 8) / 7,
+        _ => (list - 57) / 7,
     }
-    if list < 57 {
-        return (list - 8) / 7;
-    }
-    (list - 57) / 7
 }
 
 // Which operation stands second: the pairs of 7 operations come twice, with and without a third.
@@ -242,13 +158,12 @@ fn list_case(rt: &impl Print, list: usize, geometry: Geometry) -> io::Result<()>
     let kinds = [KINDS[first], KINDS[second], KINDS[third]];
     let offsets = [0u32, 16, 32];
     let lens = [LENS[first], LENS[second], LENS[third]];
-    print_list(
-        rt,
-        &kinds[..operations],
-        &offsets[..operations],
-        &lens[..operations],
-        geometry,
-    )
+    let operations_of_list = OpsRef {
+        kinds: &kinds[..operations],
+        offsets: &offsets[..operations],
+        lens: &lens[..operations],
+    };
+    print_list(rt, &operations_of_list, geometry)
 }
 
 fn list_cases(rt: &impl Print, geometry: Geometry) -> io::Result<()> {

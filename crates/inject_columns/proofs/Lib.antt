@@ -1,5 +1,4 @@
 -- Laws of points written to columns, each under what it is about.
-pub mod Order
 pub mod Rows
 pub mod Walks
 pub mod Listings

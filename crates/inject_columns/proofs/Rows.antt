@@ -1,7 +1,7 @@
 -- Points stored in the lent columns, one to a row from a place on, and then more of them. Assumes nothing.
 use mathlib.Core.Path.{◌≡◌, refl, sym, ap, ap₂, subst, ◌∙◌}
 use mathlib.Core.List.{List, [], ◌∷◌, ◌++◌, map, map-append}
-use Prim.Native.Nat.{ℕ, zero, suc, ◌+◌, ◌*◌, ◌≤◌}
+use Prim.Native.Nat.{ℕ, zero, suc, ◌+◌, ◌*◌, ◌≤◌, ◌<◌}
 use native.Mathlib.Nat.{add-zero, zero-add, le_trans}
 use native.Mathlib.Numerals.{add-one}
 use native.Mathlib.Omega.{arith}
@@ -10,7 +10,7 @@ use lib.Seq.{sets, length-sets, sets-eq}
 use Rattle.inject.specs.declared.Progress.TheVariants.{None, Bytes, Whole}
 use Rattle.inject.specs.declared.Interruption.{Interruption}
 use Rattle.inject.specs.declared.Injection.{Injection}
-use Rattle.inject.specs.declared.Group.{Group}
+use Rattle.inject.specs.declared.group.Group.{Group}
 use Rattle.inject.specs.Points.{point}
 use Rattle.inject.specs.Answers.{progress_code, count_code, interruption_code}
 use Rattle.inject_columns.specs.Answers.{PointColumns, columns_of, begun, written}
@@ -70,6 +70,10 @@ pub no_rows : (at : ℕ) (c : PointColumns) → rows at c ≡ laid_from at [] c
 unfolding laid
 no_rows at c = ap (λ (j : ℕ). rows j c) (sym (add-zero at))
 
+pub none_yet : (at : ℕ) (c : PointColumns) → rows (at + 0) c ≡ laid_from at [] c
+unfolding laid
+none_yet at c = refl
+
 -- one row
 pub one-row : (at : ℕ) (p : Injection) (c d : PointColumns) → d ≡ laid at (p ∷ []) c → rows (at + 1) d ≡ laid_from at (p ∷ []) c
 one-row at p c d e = ap (λ (t : PointColumns). rows (at + 1) t) e
@@ -80,17 +84,20 @@ pub then-row : (at n : ℕ) (xs : List Injection) (p : Injection) (c d e : Point
 then-row at n xs p c d e a b = then-rows at n (n + 1) xs (p ∷ []) c d e a (one-row n p d e b)
 
 -- the same point once more
-pub same_rows : (at n k : ℕ) (p : Injection) (c d e : PointColumns) → rows n d ≡ laid_from at (replicate k p) c → e ≡ laid n (p ∷ []) d
-    → rows (n + 1) e ≡ laid_from at (replicate (k + 1) p) c
-same_rows at n k p c d e a b =
-    then-row at n (replicate k p) p c d e a b ∙ ap (λ (xs : List Injection). laid_from at xs c) (replicate-append-replicate k 1 p)
+pub same_rows : (at k : ℕ) (p : Injection) (c d e : PointColumns) → rows (at + k) d ≡ laid_from at (replicate k p) c → e ≡ laid (at + k) (p ∷ []) d
+    → rows (at + (k + 1)) e ≡ laid_from at (replicate (k + 1) p) c
+same_rows at k p c d e a b =
+    let n : at + (k + 1) ≡ at + k + 1 = omega arith in
+    ap (λ (j : ℕ). rows j e) n ∙ then-row at (at + k) (replicate k p) p c d e a b ∙ ap (λ (xs : List Injection). laid_from at xs c) (replicate-append-replicate k 1 p)
 
 -- the next byte point
-pub byte-rows : (at n k op unit : ℕ) (w : Interruption) (c d e : PointColumns) → rows n d ≡ laid_from at (bytes_at op w unit k) c
-    → e ≡ laid n (point op w (Bytes ((k + 1) * unit)) ∷ []) d → rows (n + 1) e ≡ laid_from at (bytes_at op w unit (k + 1)) c
+pub byte-rows : (at k op unit : ℕ) (w : Interruption) (c d e : PointColumns) → rows (at + k) d ≡ laid_from at (bytes_at op w unit k) c
+    → e ≡ laid (at + k) (point op w (Bytes ((k + 1) * unit)) ∷ []) d → rows (at + (k + 1)) e ≡ laid_from at (bytes_at op w unit (k + 1)) c
 unfolding steps
-byte-rows at n k op unit w c d e a b =
-    then-row at n (bytes_at op w unit k) (point op w (Bytes ((k + 1) * unit))) c d e a b
+byte-rows at k op unit w c d e a b =
+    let n : at + (k + 1) ≡ at + k + 1 = omega arith in
+    ap (λ (j : ℕ). rows j e) n
+    ∙ then-row at (at + k) (bytes_at op w unit k) (point op w (Bytes ((k + 1) * unit))) c d e a b
     ∙ ap (λ (xs : List Injection). laid_from at xs c)
     (simp (add-one) (sym (ap (map (point op w)) (map-append Bytes (steps unit k) (suc k * unit ∷ [])) ∙ map-append (point op w) (map Bytes (steps unit k)) _)))
 
@@ -113,9 +120,6 @@ laid_kept at ps c = record {
 
 pub kept : (at n : ℕ) (ps : List Injection) (c d : PointColumns) → rows n d ≡ laid_from at ps c → Kept c d
 kept at n ps c d e = subst (λ (t : PointColumns). Kept c t) (sym (ap (λ (r : Rows). r.columns) e)) (laid_kept at ps c)
-
-pub kept-all : (c : PointColumns) → Kept c c
-kept-all c = record { ops = refl; progresses = refl; counts = refl; interruptions = refl }
 
 pub kept_trans : (c d e : PointColumns) → Kept c d → Kept d e → Kept c e
 kept_trans c d e p q = record {
@@ -140,6 +144,10 @@ less-room n m c l r = record {
   in-counts = le_trans l r.in-counts;
   in-interruptions = le_trans l r.in-interruptions;
 }
+
+-- there is room for one more row
+pub row-room : (at k n : ℕ) (ps : List Injection) (c d : PointColumns) → rows (at + k) d ≡ laid_from at ps c → k < n → Room (at + n) c → Room (at + k + 1) d
+row-room at k n ps c d e h r = kept-room (at + n) (at + k + 1) c d (kept at (at + k) ps c d e) (omega arith) r
 
 -- room for two parts is room for the first, and then for the second
 module _ (at : ℕ) (xs ys : List Injection) (c : PointColumns) (r : Room (at + length (xs ++ ys)) c) where

@@ -7,7 +7,7 @@ use lib.ListN.{length}
 use Rattle.storage.specs.declared.Geometry.{Geometry}
 use Rattle.inject.specs.declared.Interruption.{Interruption}
 use Rattle.inject.specs.declared.Injection.{Injection}
-use Rattle.inject.specs.declared.Group.{Group}
+use Rattle.inject.specs.declared.group.Group.{Group}
 use Rattle.inject.specs.Ops.{ops_of}
 use Rattle.inject.specs.Points.{point, under}
 use Rattle.inject_columns.specs.Answers.{PointColumns}

@@ -1,27 +1,24 @@
--- What only private contracts cite: the list in parts, and rows stored from a place on. Definitions only; assumes nothing.
-use Rattle.std.specs.Prelude.{List, ◌++◌, map, ℕ, ◌+◌, ◌≤◌, length, replicate}
+-- What only private contracts cite: rows stored from a place on. Definitions only; assumes nothing.
+use Rattle.std.specs.Prelude.{List, map, ℕ, ◌+◌, ◌≤◌, length}
 use Rattle.std.proofs.lemmas.List.Edits.{sets}
-use Rattle.storage.specs.declared.Geometry.{Geometry}
-use Rattle.inject.specs.declared.Progress.TheVariants.{None, Bytes}
+use Rattle.inject.specs.declared.Progress.TheVariants.{Bytes}
 use Rattle.inject.specs.declared.Interruption.{Interruption}
-use Rattle.inject.specs.declared.Interruption.TheVariants.{Watchdog, Failure}
 use Rattle.inject.specs.declared.Injection.{Injection}
+use Rattle.inject.specs.declared.Sequence.{Sequence}
 use Rattle.inject.specs.Ops.{ops_of}
 use Rattle.inject.specs.Points.{point, under}
-use Rattle.inject.specs.Answers.{progress_code, count_code, interruption_code}
-use Rattle.inject.specs.Steps.{steps, lone_for}
+use Rattle.inject.specs.Answers.{points_of, progress_code, count_code, interruption_code}
+use Rattle.inject.specs.Steps.{steps}
 use Rattle.inject_columns.specs.Answers.{PointColumns, columns_of}
 
--- ---- the list in the parts that are written one after the other
+-- ---- the points of a list that nothing refuses
 
--- a none point of operation 0 so many times, and then an interruption by operation
-abbrev pub part_of : (times : ℕ) → Interruption → Geometry → (kinds offsets lens : List ℕ) → List Injection
-part_of times w g kinds offsets lens = replicate times (point 0 w None) ++ under g w 0 (ops_of kinds offsets lens)
+-- those of its operations, under an interruption
+abbrev pub under_of : Sequence → Interruption → List Injection
+under_of s w = under s.geometry w 0 (ops_of s.ops.kinds.now s.ops.offsets.now s.ops.lens.now)
 
--- what follows the points of power loss
-abbrev pub later_of : Geometry → (kinds offsets lens : List ℕ) → List Injection
-later_of g kinds offsets lens =
-    lone_for (length kinds) ++ (under g Watchdog 0 (ops_of kinds offsets lens) ++ under g Failure 0 (ops_of kinds offsets lens))
+abbrev pub all_of : Sequence → List Injection
+all_of s = points_of s.geometry s.ops.kinds.now s.ops.offsets.now s.ops.lens.now
 
 -- ---- rows of the lent columns
 

@@ -7,61 +7,23 @@
 
 ghost use Rattle.std.specs.Prelude.{◌≡◌};
 ghost use Rattle.storage.specs.Geometry.{geometry_of};
-ghost use Rattle.inject.specs.Answers.{count_test, place_test, progress_code, count_code, interruption_code};
+ghost use Rattle.inject.specs.Answers.{count_test, place_test};
 ghost use Rattle.inject_columns.specs.Answers.{write_test, columns_of};
 ghost use Rattle.inject_exported.specs.Inject.{count_over, point_in, point_over, columns_over, rows_over};
 
-use basics::store_u64;
-use inject::{Counted, Found, Injection, Interruption, Progress};
-use inject_columns::Written;
+use basics::{Numbered, store};
+use inject::{Injection, OpsRef};
+use inject_columns::PointsMut;
 use storage::Geometry;
-
-// A kind of progress as in the column of them: 0 none, 1 a byte count, 2 whole.
-fn progress_code(progress: Progress) -> u64
-    ensures { result ≡ progress_code progress }
-{
-    match progress {
-        Progress::None => 0,
-        Progress::Bytes(_) => 1,
-        Progress::Whole => 2,
-    }
-}
-
-// The byte count of a progress, 0 where it has none.
-fn count_code(progress: Progress) -> u64
-    ensures { result ≡ count_code progress }
-{
-    match progress {
-        Progress::None => 0,
-        Progress::Bytes(count) => count as u64,
-        Progress::Whole => 0,
-    }
-}
-
-// An interruption as in the column of them: 0 power loss, 1 watchdog, 2 failure.
-fn interruption_code(interruption: Interruption) -> u64
-    ensures { result ≡ interruption_code interruption }
-{
-    match interruption {
-        Interruption::PowerLoss => 0,
-        Interruption::Watchdog => 1,
-        Interruption::Failure => 2,
-    }
-}
 
 // Puts a point's four numbers into the first four places.
 fn keep(point: &mut [u64], injection: Injection)
     ensures { point.new ≡ point_in injection point.old }
 {
-    let progress = injection.progress;
-    let interruption = injection.interruption;
-    let kind = progress_code(progress);
-    let bytes = count_code(progress);
-    let cause = interruption_code(interruption);
-    store_u64(point, 0, injection.op as u64);
-    store_u64(point, 1, kind);
-    store_u64(point, 2, bytes);
-    store_u64(point, 3, cause);
+    store(point, 0, injection.op as u64);
+    store(point, 1, injection.progress.code() as u64);
+    store(point, 2, injection.progress.byte_count() as u64);
+    store(point, 3, injection.interruption as u64);
 }
 
 // `injection_count`: the number that refuses the list, and through `points` how many crash points it has; a refusal leaves
@@ -85,13 +47,17 @@ pub extern "C" fn inject_count(
         program_size: program,
         read_size: read,
     };
-    let counted = inject::injection_count(kinds, offsets, lens, geometry);
-    match counted {
-        Counted::Points(count) => {
+    let list = OpsRef {
+        kinds,
+        offsets,
+        lens,
+    };
+    match list.injection_count(geometry) {
+        Ok(count) => {
             *points = count;
             0
         }
-        Counted::NotCounted(number) => number,
+        Err(refusal) => refusal.number(),
     }
 }
 
@@ -117,13 +83,17 @@ pub extern "C" fn inject_at(
         program_size: program,
         read_size: read,
     };
-    let found = inject::injection_at(kinds, offsets, lens, geometry, place);
-    match found {
-        Found::Point(injection) => {
+    let list = OpsRef {
+        kinds,
+        offsets,
+        lens,
+    };
+    match list.injection_at(geometry, place) {
+        Ok(injection) => {
             keep(point, injection);
             0
         }
-        Found::NotFound(number) => number,
+        Err(refusal) => refusal.number(),
     }
 }
 
@@ -152,21 +122,22 @@ pub extern "C" fn inject_all(
         program_size: program,
         read_size: read,
     };
-    let written = inject_columns::injections(
+    let list = OpsRef {
         kinds,
         offsets,
         lens,
-        geometry,
+    };
+    let mut columns = PointsMut {
         ops,
         progresses,
         counts,
         interruptions,
-    );
-    match written {
-        Written::All(count) => {
+    };
+    match inject_columns::injections(&list, geometry, &mut columns) {
+        Ok(count) => {
             *rows = count;
             0
         }
-        Written::NotWritten(number) => number,
+        Err(refusal) => refusal.number(),
     }
 }

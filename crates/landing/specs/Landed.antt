@@ -43,3 +43,12 @@ abbrev pub ran : Progress → Bool
 ran None = false
 ran (Bytes count) = not (eqb count 0)
 ran Whole = true
+
+-- the same of either, as the code has it: a program stops at any byte (its step is 1), an erase between blocks
+abbrev pub cut_by : Interruption → (n len step unit : ℕ) → ℕ
+cut_by PowerLoss n len step unit = rounded_down n step
+cut_by Watchdog n len step unit = rounded_up n len unit
+cut_by Failure n len step unit = rounded_down n step
+
+abbrev pub landed_by : Injection → (len step unit : ℕ) → ℕ
+landed_by j len step unit = cut_by j.interruption (offered j.progress len) len step unit

@@ -4,23 +4,26 @@
 #![tactic(auto)]
 
 ghost use Rattle.std.specs.Prelude.{◌≡◌};
-ghost use Rattle.landing.specs.Landed.{offered, rounded_up, rounded_down, program_landed, erase_landed, ran};
-ghost use Rattle.landing.specs.Ending.{row_of, ending_of, stop_number};
+ghost use Rattle.basics.specs.Replies.{number_in};
+ghost use Rattle.refusals.specs.Numbers.{number_of};
+ghost use Rattle.landing.specs.Landed.{offered, rounded_up, rounded_down, landed_by, ran};
+ghost use Rattle.landing.specs.Ending.{ending_of, ended_as, stop_number};
 
 use inject::{Injection, Interruption, Progress};
+use refusals::Refusal;
 
 // Whether a session still runs, or the reset that ended it.
-#[derive(Clone, Copy)]
+#[derive(Clone, Copy, Debug, PartialEq, Eq)]
 pub enum Stop {
     Running,
     PowerLost,
     CoreReset,
 }
 
-// How an armed operation ends: document 01's number that it answers, and the stop that it leaves.
-#[derive(Clone, Copy)]
+// How an armed operation ends: what it answers, and the stop that it leaves.
+#[derive(Clone, Copy, Debug, PartialEq, Eq)]
 pub struct Ending {
-    pub answer: u32,
+    pub answer: Result<(), Refusal>,
     pub stop: Stop,
 }
 
@@ -30,7 +33,7 @@ fn landed(progress: Progress, len: u32) -> u32
 {
     match progress {
         Progress::None => 0,
-        Progress::Bytes(bytes) => { if bytes < len { bytes } else { len } }
+        Progress::Bytes(bytes) => bytes.min(len),
         Progress::Whole => len,
     }
 }
@@ -45,48 +48,29 @@ fn unit_completed(landed: u32, len: u32, unit: u32) -> u32
     }
     let whole = unit as u64;
     let raised = (landed as u64 + (whole - 1)) / whole * whole;
-    if raised < len as u64 {
-        raised as u32
-    } else {
-        len
-    }
+    raised.min(len as u64) as u32
 }
 
-// `landed` lowered to whole blocks: no device erases byte by byte. No geometry has a block of 0; none of it lands.
-fn blocks_of(landed: u32, block: u32) -> u32
-    ensures { result ≡ rounded_down landed block }
+// `landed` lowered to whole steps: no device erases byte by byte. No geometry has a step of 0; none of it lands.
+fn steps_of(landed: u32, step: u32) -> u32
+    ensures { result ≡ rounded_down landed step }
 {
-    if block == 0 {
+    if step == 0 {
         return 0;
     }
-    landed / block * block
+    landed / step * step
 }
 
-// How many bytes of a program of `len` bytes reach the media, with an injection armed on it.
-pub fn landed_at(injection: Injection, len: u32, unit: u32) -> u32
-    ensures { result ≡ program_landed injection len unit }
+// How many bytes of a program or an erase of `len` bytes reach the media, with an injection armed on it. A watchdog reset lets
+// the unit in flight complete; whatever else cuts it short leaves whole steps: bytes of a program (whose step is 1), blocks of
+// an erase (whose step and unit are the erase block).
+pub fn landed_at(injection: Injection, len: u32, step: u32, unit: u32) -> u32
+    ensures { result ≡ landed_by injection len step unit }
 {
-    let progress = injection.progress;
-    let interruption = injection.interruption;
-    let bytes = landed(progress, len);
-    match interruption {
-        Interruption::PowerLoss => bytes,
+    let bytes = landed(injection.progress, len);
+    match injection.interruption {
         Interruption::Watchdog => unit_completed(bytes, len, unit),
-        Interruption::Failure => bytes,
-    }
-}
-
-// The same of an erase, whose unit is the erase block.
-pub fn erase_landed_at(injection: Injection, len: u32, block: u32) -> u32
-    ensures { result ≡ erase_landed injection len block }
-{
-    let progress = injection.progress;
-    let interruption = injection.interruption;
-    let bytes = landed(progress, len);
-    match interruption {
-        Interruption::PowerLoss => blocks_of(bytes, block),
-        Interruption::Watchdog => unit_completed(bytes, len, block),
-        Interruption::Failure => blocks_of(bytes, block),
+        Interruption::PowerLoss | Interruption::Failure => steps_of(bytes, step),
     }
 }
 
@@ -104,61 +88,56 @@ pub fn barrier_ran(progress: Progress) -> bool
 
 // The endings, by interruption and completion: not completed, then completed, of each interruption in turn. A power loss
 // after the operation returned lets it answer 0 first; a watchdog reset never returns; a failure leaves the session running.
-const ENDINGS: [Ending; 6] = [
-    Ending {
-        answer: 21,
-        stop: Stop::PowerLost,
-    },
-    Ending {
-        answer: 0,
-        stop: Stop::PowerLost,
-    },
-    Ending {
-        answer: 22,
-        stop: Stop::CoreReset,
-    },
-    Ending {
-        answer: 22,
-        stop: Stop::CoreReset,
-    },
-    Ending {
-        answer: 23,
-        stop: Stop::Running,
-    },
-    Ending {
-        answer: 23,
-        stop: Stop::Running,
-    },
+// Document 01 reads the ending from a fixed table, so this is one and no `match`.
+const ENDINGS: [[Ending; 2]; 3] = [
+    [
+        Ending {
+            answer: Err(Refusal::PowerLoss),
+            stop: Stop::PowerLost,
+        },
+        Ending {
+            answer: Ok(()),
+            stop: Stop::PowerLost,
+        },
+    ],
+    [
+        Ending {
+            answer: Err(Refusal::WatchdogReset),
+            stop: Stop::CoreReset,
+        },
+        Ending {
+            answer: Err(Refusal::WatchdogReset),
+            stop: Stop::CoreReset,
+        },
+    ],
+    [
+        Ending {
+            answer: Err(Refusal::InjectedFailure),
+            stop: Stop::Running,
+        },
+        Ending {
+            answer: Err(Refusal::InjectedFailure),
+            stop: Stop::Running,
+        },
+    ],
 ];
-
-// The table's row of an interruption and a completion.
-fn row_of(interruption: Interruption, completed: bool) -> usize
-    ensures { result ≡ row_of interruption completed }
-{
-    match interruption {
-        Interruption::PowerLoss => { if completed { 1 } else { 0 } }
-        Interruption::Watchdog => { if completed { 3 } else { 2 } }
-        Interruption::Failure => { if completed { 5 } else { 4 } }
-    }
-}
 
 // The ending of an operation that an interruption is armed on.
 pub fn ending_of(interruption: Interruption, completed: bool) -> Ending
-    ensures { result ≡ ending_of interruption completed }
+    ensures { ended_as result ≡ ending_of interruption completed }
 {
-    let row = row_of(interruption, completed);
-    ENDINGS[row]
+    ENDINGS[interruption as usize][completed as usize]
 }
 
 impl Stop {
-    // The number that every later program, erase, barrier or read answers, 0 while the session runs.
-    pub fn number(self) -> u32
-        ensures { result ≡ stop_number self }
+    // What every later program, erase, barrier or read answers: no refusal while the session runs.
+    pub fn refusal(self) -> Result<(), Refusal>
+        ensures { number_in number_of result ≡ stop_number self }
     {
         match self {
-            Stop::Running => 0,
-            Stop::PowerLost => 21,
-            Stop::CoreReset => 22,
+            Stop::Running => Ok(()),
+            Stop::PowerLost => Err(Refusal::PowerLoss),
+            Stop::CoreReset => Err(Refusal::WatchdogReset),
         }
     }
 }

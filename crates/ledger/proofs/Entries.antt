@@ -14,10 +14,10 @@ use native.Mathlib.Omega.{arith}
 use lib.Dec.{eqb}
 use lib.ListN.{length, take, drop, length-take, length-drop, length-map}
 use lib.Seq.{sets, sets-eq, length-take-le}
+use Rattle.std.proofs.lemmas.List.Sums.{sum_by-cons}
 use Rattle.basics.specs.Tests.{flag}
 use Rattle.model.specs.Ledger.{Entry, code_of}
-use Rattle.session.specs.declared.Armed.{Armed}
-use Rattle.session.specs.Armed.{armed_on, is_armed}
+use Rattle.session.specs.Armed.{Armed, armed_on, is_armed}
 use Rattle.records.specs.declared.Facts.{Facts}
 use Rattle.records.specs.Records.{any, begin, end, RecordMark, Asked, next_place, record_at, records_to, judged, entry_by, ledger_by}
 use Rattle.ledger.specs.Ledger.{Row, rows_from, marks_from, Entered, entered_of, entered}
@@ -122,19 +122,20 @@ module _ (a : Armed) (o : Bool) (ks cs xs : List ℕ) (e : length cs ≡ length 
 
 -- ---- how many they are
 
-count-step : (b : Bool) (x : Entry) (l : List Entry) (n : ℕ) → length l ≡ n → length (cond b (x ∷ l) l) ≡ cond b (suc n) n
-count-step true x l n h = ap suc h
-count-step false x l n h = h
+count-step : (b : Bool) (x : Entry) (l : List Entry) (n : ℕ) → length l ≡ n → length (cond b (x ∷ l) l) ≡ cond b 1 0 + n
+count-step true x l n h = omega (arith, h)
+count-step false x l n h = omega (arith, h)
 
 pub entries-length : (f : Facts) (ks cs ms is ps : List ℕ) → length is ≡ length ms → length ps ≡ length ms
     → length (entries_from f ks cs ms is ps) ≡ begins ms
-unfolding entries_from begins
+unfolding entries_from
 entries-length f ks cs [] is ps d g = refl
 entries-length f ks cs (m ∷ ms) [] ps d g = absurd (suc-ne-zero (length ms) (sym d))
 entries-length f ks cs (m ∷ ms) (i ∷ is) [] d g = absurd (suc-ne-zero (length ms) (sym g))
 entries-length f ks cs (m ∷ ms) (i ∷ is) (p ∷ ps) d g =
     count-step (eqb m 1) (entry_at f ks cs i p (next_of (length ks) ps)) (entries_from f ks cs ms is ps) (begins ms)
     (entries-length f ks cs ms is ps (suc_inj d) (suc_inj g))
+    ∙ sym (sum_by-cons (λ (k : ℕ). cond (eqb k 1) 1 0) m ms)
 
 -- ---- stored one after the other
 

@@ -1,5 +1,4 @@
 -- Laws of the log's rows, of the marks' entries and of the whole call.
-pub mod Scanning
 pub mod Rows
 pub mod Entries
 pub mod Withheld

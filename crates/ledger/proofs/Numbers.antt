@@ -1,35 +1,54 @@
--- The tests' numbers: from the code's branches to the number, and from 0 back to what holds.
---     codes-twelve, codes-thirteen, codes-none    the test of codes and counts
+-- The tests' numbers, from the code's branches.
+--     test, tested                                     12 and 13 by two tests
+--     lent-size, lent-twelve, lent-thirteen, lent-none   what refuses a run
 -- Assumes nothing.
-use mathlib.Core.Path.{◌≡◌, sym, ◌∙◌}
-use mathlib.Core.Bool.{Bool, true, false, not, ◌&&◌}
-use mathlib.Core.List.{List, [], ◌∷◌}
+use mathlib.Core.Path.{◌≡◌, refl, sym, ◌∙◌}
+use mathlib.Core.Bool.{Bool, true, false, not, ◌||◌, cond}
+use mathlib.Core.List.{[], ◌∷◌}
 use Prim.Native.Nat.{ℕ}
-use lib.ListN.{length, take}
-use borrow.Author.Tests.{not-true, not-false}
+use lib.ListN.{length}
 use Rattle.basics.specs.Tests.{unless, refuse_if, first_of}
-use Rattle.basics.proofs.Tests.{first_of-one, first_of-pass, unless_holds, refuse-if, refuse-not}
-use Rattle.model.specs.Columns.{all_up_to}
+use Rattle.basics.proofs.Tests.{first_of-pass, first_of-stop}
+use Rattle.session.specs.declared.Told.{Told}
 use Rattle.session.specs.declared.Counters.{Counters}
-use Rattle.ledger.specs.Ledger.{counts_short}
-use Rattle.ledger.specs.Scans.{code_number}
+use Rattle.session.specs.Log.{Log, Marks}
+use Rattle.session.specs.Tests.{size_test, log_uneven_of, marks_uneven_of}
+use Rattle.ledger.specs.Ledger.{codes_known, counts_short}
+use Rattle.ledger.specs.Scans.{lent_number}
 
-module _ (c : Counters) (ks cs xs ms : List ℕ) (k d x m : Bool) (ek : k ≡ all_up_to 2 (take c.operations ks)) (ed : d ≡ all_up_to 1 (take c.operations cs))
-    (ex : x ≡ all_up_to 1 (take c.operations xs)) (em : m ≡ all_up_to 1 (take c.marks ms)) where
-  pub codes-twelve : not (k && d && x && m) ≡ true → 12 ≡ code_number c ks cs xs ms
-  unfolding code_number unless first_of
-  codes-twelve n = rw (← ek, ← ed, ← ex, ← em, not-true (k && d && x && m) n)
+-- 12 for columns that are malformed, then 13 for those that are too short
+unfoldable pub test : (malformed short : Bool) → ℕ
+test m s = cond m 12 (cond s 13 0)
 
-  module _ (n : not (k && d && x && m) ≡ false) where
-    passed : code_number c ks cs xs ms ≡ refuse_if (counts_short c (length ks) (length ms)) 13
-    unfolding code_number
+pub tested : (u k s : Bool) → first_of (refuse_if u 12 ∷ unless k 12 ∷ refuse_if s 13 ∷ []) ≡ test (u || not k) s
+unfolding test first_of refuse_if unless
+tested true k s = refl
+tested false false s = refl
+tested false true true = refl
+tested false true false = refl
+
+module _ (t : Told) (c : Counters) (media copy : ℕ) (l : Log) (m : Marks) (u : Bool) where
+  pub lent-size : (n : ℕ) → (n ≡ 0 → ⊥) → n ≡ size_test t.geometry media copy → n ≡ lent_number t c media copy l m u
+  unfolding lent_number
+  lent-size n h e = e ∙ sym (first_of-stop (size_test t.geometry media copy) _ (λ z. h (e ∙ z)))
+
+  module _ (z : 0 ≡ size_test t.geometry media copy) (lu mu k s : Bool) (el : lu ≡ log_uneven_of l) (em : mu ≡ marks_uneven_of m) (ek : k ≡ codes_known c l m)
+      (es : s ≡ counts_short c (length l.kinds) (length m.codes)) where
+    passed : lent_number t c media copy l m u ≡ test (lu || mu || u || not k) s
+    unfolding lent_number
     passed =
-        rw (← ek, ← ed, ← ex, ← em)
-        (first_of-pass (unless (k && d && x && m) 12) (refuse_if (counts_short c (length ks) (length ms)) 13 ∷ []) (unless_holds (k && d && x && m) 12 (not-false (k && d && x && m) n))
-        ∙ first_of-one (refuse_if (counts_short c (length ks) (length ms)) 13))
+        first_of-pass (size_test t.geometry media copy) _ (sym z)
+        ∙ tested (log_uneven_of l || marks_uneven_of m || u) (codes_known c l m) (counts_short c (length l.kinds) (length m.codes))
+        ∙ sym (λ i. test (el i || em i || u || not (ek i)) (es i))
 
-    pub codes-thirteen : counts_short c (length ks) (length ms) ≡ true → 13 ≡ code_number c ks cs xs ms
-    codes-thirteen s = sym (passed ∙ refuse-if (counts_short c (length ks) (length ms)) 13 s)
+    pub lent-twelve : (lu || mu || u || not k) ≡ true → 12 ≡ lent_number t c media copy l m u
+    unfolding test
+    lent-twelve e = sym (passed ∙ rw e)
 
-    pub codes-none : counts_short c (length ks) (length ms) ≡ false → 0 ≡ code_number c ks cs xs ms
-    codes-none s = sym (passed ∙ refuse-not (counts_short c (length ks) (length ms)) 13 s)
+    pub lent-thirteen : (lu || mu || u || not k) ≡ false → s ≡ true → 13 ≡ lent_number t c media copy l m u
+    unfolding test
+    lent-thirteen e y = sym (passed ∙ rw (e, y))
+
+    pub lent-none : (lu || mu || u || not k) ≡ false → s ≡ false → 0 ≡ lent_number t c media copy l m u
+    unfolding test
+    lent-none e y = sym (passed ∙ rw (e, y))

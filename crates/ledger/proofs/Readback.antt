@@ -22,9 +22,8 @@ use Rattle.model.proofs.Sanity.{state-decoded}
 use Rattle.session.specs.declared.Told.{Told}
 use Rattle.session.specs.declared.Counters.{Counters}
 use Rattle.session.specs.Log.{Log, Marks}
-use Rattle.ledger.specs.declared.Derived.{Derived}
-use Rattle.ledger.specs.declared.Derived.TheVariants.{Entries, NotDerived}
-use Rattle.ledger.specs.Ledger.{ledger_of_run, ledger_number, Entered, entered_of, entered, Ledgered, ledgered, ledgered_by, ledger_call}
+use Rattle.std.specs.Prelude.{Ok as Entries, Err as NotDerived}
+use Rattle.ledger.specs.Ledger.{ledger_of_run, ledger_number, Entered, Derived, entered_of, entered, Ledgered, ledgered, ledgered_by, ledger_call}
 
 -- ---- the columns of a list of entries
 

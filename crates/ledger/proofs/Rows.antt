@@ -14,9 +14,8 @@ use lib.ListN.{length, take, drop}
 use borrow.Author.Tests.{lt-ltb, le-ltb, le-leb, lt-leb, eq-eqb, ne_eqb}
 use Rattle.basics.proofs.Tests.{le-or-gt}
 use Rattle.inject.specs.declared.Injection.{Injection}
-use Rattle.session.specs.declared.Armed.{Armed}
-use Rattle.session.specs.declared.Armed.TheVariants.{Nothing, At}
-use Rattle.session.specs.Armed.{armed_on, is_armed}
+use Rattle.std.specs.Prelude.{None as Nothing, Some as At}
+use Rattle.session.specs.Armed.{Armed, armed_on, is_armed}
 use Rattle.records.specs.Records.{any}
 use Rattle.ledger.specs.Ledger.{Row, rows_from}
 use Rattle.records.specs.Columns.{last_place, yes, is_one, is_write, ordering, last_barrier, armed_in}

@@ -14,11 +14,10 @@ use lib.ListN.{length, take, length-map}
 use Rattle.model.specs.Ledger.{Entry, is_acknowledged}
 use Rattle.model.specs.declared.Durability.TheVariants.{PossiblyDurable}
 use Rattle.session.specs.declared.Told.{Told}
-use Rattle.session.specs.declared.Armed.{Armed}
-use Rattle.session.specs.declared.Armed.TheVariants.{Nothing}
+use Rattle.std.specs.Prelude.{None as Nothing}
 use Rattle.session.specs.declared.Counters.{Counters}
 use Rattle.session.specs.Log.{Log, Marks}
-use Rattle.session.specs.Armed.{armed_on, is_armed}
+use Rattle.session.specs.Armed.{Armed, armed_on, is_armed}
 use Rattle.records.specs.Records.{any, Label, begin, end, RecordMark, Asked, Kept, next_place, record_at, records_to, judged, entry_by, ledger_by}
 use Rattle.ledger.specs.Ledger.{Row, rows_from, rows_of, marks_from, marks_listed, outstanding, asked, ledger_of_run}
 

@@ -1,5 +1,5 @@
 -- One mark entered, and the loop over the marks.
---     enter-none, enter_one     an end leaves the columns, a begin stores its entry
+--     enter_one                 a begin stores its entry
 --     fill-next, fill_end       the loop: what is left to be entered
 --     derive-short, derive-all  13, or the ledger in its columns
 -- Assumes nothing.
@@ -8,11 +8,11 @@ use mathlib.Core.List.{List, ◌∷◌}
 use Prim.Native.Nat.{ℕ, ◌+◌, ◌≤◌, ◌<◌}
 use native.Mathlib.Omega.{arith}
 use lib.ListN.{length, drop, get_or, set}
-use borrow.Author.Tests.{eq-eqb, ne_eqb, le-leb, lt-leb}
+use borrow.Author.Tests.{eq-eqb, le-leb, lt-leb}
 use Rattle.basics.specs.Tests.{flag, unless}
 use Rattle.basics.proofs.Scans.{at-step, at-end}
 use Rattle.model.specs.Ledger.{code_of}
-use Rattle.ledger.specs.declared.Derived.TheVariants.{Entries, NotDerived}
+use Rattle.std.specs.Prelude.{Ok as Entries, Err as NotDerived}
 use Rattle.records.specs.declared.Facts.{Facts}
 use Rattle.records.specs.declared.Codes.{Codes}
 use Rattle.ledger.specs.Ledger.{Entered, entered_of, entered, ledgered}
@@ -24,9 +24,6 @@ use Rattle.ledger.proofs.Entries.{entries-length, filled-all}
 -- ---- one mark
 
 module _ (f : Facts) (ks cs : List ℕ) (from to code id n : ℕ) (is ss ts : List ℕ) where
-  pub enter-none : (code ≡ 1 → ⊥) → filled n (entered_of is ss ts) ≡ entering f ks cs code id from to (filled n (entered_of is ss ts))
-  enter-none h = rw (ne_eqb code 1 h)
-
   pub enter_one : code ≡ 1 → (next : ℕ) → next ≡ to → (x : Codes) → x ≡ codes_of (entry_at f ks cs 0 from next)
       → (is' ss' ts' : List ℕ) → is' ≡ set is n id → ss' ≡ set ss n x.state → ts' ≡ set ts n x.torn
       → filled (n + 1) (entered_of is' ss' ts') ≡ entering f ks cs code id from to (filled n (entered_of is ss ts))

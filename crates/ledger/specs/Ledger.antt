@@ -1,18 +1,18 @@
 -- Document 01, "session.rs (974)": the ledger of a session, from what the start was told, the counters and all that was lent.
 -- Definitions only; assumes nothing.
-use Rattle.std.specs.Prelude.{Bool, not, ◌&&◌, ◌||◌, cond, List, [], ◌∷◌, ◌++◌, map, ℕ, suc, length, take, drop, eqb, leb, ltb}
+use Rattle.std.specs.Prelude.{Bool, not, ◌&&◌, ◌||◌, cond, List, [], ◌∷◌, ◌++◌, map, ℕ, suc, length, take, drop, eqb, leb, ltb, Result}
+use Rattle.std.specs.Prelude.{Ok as Entries, Err as NotDerived}
 use Rattle.basics.specs.Tests.{flag, unless, refuse_if, first_of}
 use Rattle.basics.specs.Parts.{part}
 use Rattle.device.specs.Media.{any_pair, unequal}
 use Rattle.model.specs.Ledger.{Entry, code_of}
 use Rattle.model.specs.Columns.{all_up_to}
+use Rattle.model.specs.declared.LedgerMut.{LedgerMut}
 use Rattle.session.specs.declared.Told.{Told}
 use Rattle.session.specs.declared.Counters.{Counters}
 use Rattle.session.specs.Log.{Log, Marks}
 use Rattle.session.specs.Tests.{size_test, log_uneven_of, log_short, marks_uneven_of, marks_short}
 use Rattle.session.specs.Armed.{armed_on, is_armed}
-use Rattle.ledger.specs.declared.Derived.{Derived}
-use Rattle.ledger.specs.declared.Derived.TheVariants.{Entries, NotDerived}
 use Rattle.records.specs.Records.{Label, begin, end, RecordMark, Asked, ledger_by}
 
 -- ---- what the columns hold
@@ -104,11 +104,22 @@ pub record Entered : Type 0 where
 abbrev pub entered_of : (ids states torn : List ℕ) → Entered
 entered_of i s t = record { ids = i; states = s; torn = t }
 
+-- what the lent columns hold
+abbrev pub entered_in : LedgerMut → Entered
+entered_in e = entered_of e.ids.now e.states.now e.torn.now
+
+abbrev pub entries_uneven_in : Entered → Bool
+entries_uneven_in e = entries_uneven (length e.ids) (length e.states) (length e.torn)
+
 -- the columns with a ledger at their beginning; the rest is left alone
 abbrev pub entered : List Entry → Entered → Entered
 entered l e =
     entered_of (map (λ (x : Entry). x.id) l ++ drop (length l) e.ids) (map (λ (x : Entry). code_of x.state) l ++ drop (length l) e.states)
     (map (λ (x : Entry). flag x.mark) l ++ drop (length l) e.torn)
+
+-- how many entries the ledger has, or document 01's number that refuses
+abbrev pub Derived : Type 0
+Derived = Result ℕ ℕ
 
 -- the reply and the columns
 pub record Ledgered : Type 0 where

@@ -1,33 +1,30 @@
 -- What the private functions of `src/` answer. No public contract cites these. Assumes nothing.
-use Rattle.std.specs.Prelude.{Bool, ◌&&◌, cond, List, [], ◌∷◌, ℕ, suc, ◌+◌, length, take, set, eqb, leb}
+use Rattle.std.specs.Prelude.{Bool, ◌||◌, cond, List, [], ◌∷◌, ℕ, ◌+◌, length, set, eqb, leb, count_by}
 use Rattle.basics.specs.Tests.{flag, unless, refuse_if, first_of}
-use Rattle.storage.specs.declared.Geometry.{Geometry}
 use Rattle.model.specs.Ledger.{Entry, code_of}
-use Rattle.model.specs.Columns.{all_up_to}
+use Rattle.session.specs.declared.Told.{Told}
 use Rattle.session.specs.declared.Counters.{Counters}
-use Rattle.session.specs.Tests.{size_test}
+use Rattle.session.specs.Log.{Log, Marks}
+use Rattle.session.specs.Tests.{size_test, log_uneven_of, marks_uneven_of}
 use Rattle.records.specs.declared.Facts.{Facts}
 use Rattle.records.specs.Columns.{entry_at}
-use Rattle.ledger.specs.Ledger.{counts_short, Entered, entered_of, Ledgered, ledgered_by}
+use Rattle.ledger.specs.Ledger.{codes_known, counts_short, Entered, entered_of, Ledgered, ledgered_by}
 
--- ---- the tests, in two parts
+-- ---- the tests
 
--- over lengths, and whether columns of one list are unequal
-unfoldable pub length_number : Geometry → (media copy : ℕ) (uneven : Bool) → ℕ
-length_number g media copy uneven = first_of (size_test g media copy ∷ refuse_if uneven 12 ∷ [])
-
--- over the codes counted, and the counts
-unfoldable pub code_number : Counters → (kinds changed answered codes : List ℕ) → ℕ
-code_number c ks cs xs ms =
+-- all but that of the room for the ledger; `uneven` says whether its own columns are unequal
+unfoldable pub lent_number : Told → Counters → (media copy : ℕ) → Log → Marks → (uneven : Bool) → ℕ
+lent_number t c media copy l m uneven =
     first_of
-    (unless (all_up_to 2 (take c.operations ks) && all_up_to 1 (take c.operations cs) && all_up_to 1 (take c.operations xs) && all_up_to 1 (take c.marks ms)) 12
-    ∷ refuse_if (counts_short c (length ks) (length ms)) 13
+    (size_test t.geometry media copy
+    ∷ refuse_if (log_uneven_of l || marks_uneven_of m || uneven) 12
+    ∷ unless (codes_known c l m) 12
+    ∷ refuse_if (counts_short c (length l.kinds) (length m.codes)) 13
     ∷ [])
 
 -- how many marks are begins
-unfoldable pub begins : (codes : List ℕ) → ℕ
-begins [] = 0
-begins (m ∷ ms) = cond (eqb m 1) (suc (begins ms)) (begins ms)
+abbrev pub begins : (codes : List ℕ) → ℕ
+begins ms = count_by (λ (m : ℕ). eqb m 1) ms
 
 -- ---- the marks, one after the other
 

@@ -1,100 +1,86 @@
 // The ledger of a run: every record that was declared, with the state it ended in and whether it is torn. Follows `ledger` of
-// waymaker-fault's session.rs; what one record's operations say is in `records`. The caller lends what the session kept (media,
-// withheld copy, log, marks) and three columns for the ledger; lengths and codes are tested first (7, 12, 13), and a refusal
-// changes nothing. The contract of `ledger` is an equation for every input.
+// waymaker-fault's session.rs. The caller lends what the session kept (media, withheld copy, log, marks) and three columns for
+// the ledger; lengths and codes are tested first (7, 12, 13), and a refusal changes nothing. The contract of `ledger` is an
+// equation for every input.
 //
 // What does not depend on the record is found once (`records::Facts`); then each record's own operations are looked at once. So
 // the cost grows with the operations, the marks and the records' own lengths.
 #![tactic(auto)]
 
-ghost use Rattle.std.specs.Prelude.{◌≡◌, ◌+◌, ◌≤◌, ◌<◌, length, take, drop, get_or};
+ghost use Rattle.std.specs.Prelude.{◌≡◌, false, ◌+◌, ◌≤◌, ◌<◌, length, take, drop, get_or};
+ghost use Rattle.basics.specs.Replies.{number_in, numbered};
+ghost use Rattle.refusals.specs.Numbers.{number_of};
 ghost use Rattle.model.specs.Columns.{all_up_to};
-ghost use Rattle.session.specs.Log.{log_of, marks_of};
-ghost use Rattle.ledger.specs.Ledger.{outstanding, entries_uneven, entered_of, ledgered, ledger_call};
-ghost use Rattle.ledger.specs.Scans.{length_number, code_number, begins, next_of, filled, entering, fill_from, derived_by};
+ghost use Rattle.model.specs.Lent.{SameLedger};
+ghost use Rattle.session.specs.Lent.{log_seen, marks_seen};
+ghost use Rattle.ledger.specs.Ledger.{outstanding, entries_uneven_in, codes_known, counts_short, entered_in, ledgered, ledger_call};
+ghost use Rattle.ledger.specs.Scans.{lent_number, begins, next_of, filled, entering, fill_from, derived_by};
 
-use basics::{first_of, lower, store_u8, store_u32};
-use model::all_up_to;
+use basics::{lower, store};
+use model::{LedgerMut, all_up_to};
 use records::Facts;
-use session::{Counters, MARKS, OPERATIONS, Told};
-use storage::Geometry;
-
-// How many entries the ledger has, or document 01's number that refuses.
-#[derive(Clone, Copy)]
-pub enum Derived {
-    Entries(usize),
-    NotDerived(u32),
-}
+use refusals::Refusal;
+use session::{Counters, LogRef, MARKS, MarksRef, OPERATIONS, Told};
 
 // ---- tests
 
 // Whether the ledger's columns are unequal.
-fn entries_uneven(ids: usize, states: usize, torn: usize) -> bool
-    ensures { result ≡ entries_uneven ids states torn }
+fn entries_uneven(entries: &LedgerMut<'_>) -> bool
+    ensures { result ≡ entries_uneven_in (entered_in entries.now) }
 {
-    (states != ids) | (torn != ids)
-}
-
-// 7 and 12, over the lengths lent.
-fn length_refusal(geometry: Geometry, media: usize, copy: usize, uneven: bool) -> u32
-    ensures { result ≡ length_number geometry media copy uneven }
-{
-    let sizes = session::size_refusal(geometry, media, copy);
-    if uneven {
-        return first_of(sizes, 12);
-    }
-    sizes
+    let rows = entries.ids.len();
+    (entries.states.len() != rows) | (entries.torn.len() != rows)
 }
 
 // Whether none of the first `count` codes is above `top`.
-fn known(codes: &[u8], count: usize, top: u8) -> bool
+pub fn known(codes: &[u8], count: usize, top: u8) -> bool
     ensures { result ≡ all_up_to top (take count codes.now) }
 {
-    if count < codes.len() {
-        return all_up_to(&codes[..count], top);
-    }
-    all_up_to(codes, top)
+    all_up_to(&codes[..count.min(codes.len())], top)
 }
 
-// 12 for a code without a meaning among those counted, then 13 for columns shorter than the limits or the counts.
-fn code_refusal(
-    counters: Counters,
-    kinds: &[u8],
-    changed: &[u8],
-    answered: &[u8],
-    codes: &[u8],
-) -> u32
-    ensures { result ≡ code_number counters kinds.now changed.now answered.now codes.now }
+// Whether every code among those counted has a meaning.
+fn codes_known(counters: Counters, log: &LogRef<'_>, marks: &MarksRef<'_>) -> bool
+    ensures { result ≡ codes_known counters (log_seen log.now) (marks_seen marks.now) }
 {
     let operations = counters.operations;
-    let marks = counters.marks;
-    let kinds_known = known(kinds, operations, 2);
-    let changed_known = known(changed, operations, 1);
-    let answered_known = known(answered, operations, 1);
-    let codes_known = known(codes, marks, 1);
-    if !(kinds_known & changed_known & answered_known & codes_known) {
-        return 12;
-    }
-    let short = (kinds.len() < OPERATIONS)
-        | (codes.len() < MARKS)
-        | (kinds.len() < operations)
-        | (codes.len() < marks);
-    if short { 13 } else { 0 }
+    let kinds_known = known(log.kinds, operations, 2);
+    let changed_known = known(log.changed, operations, 1);
+    let answered_known = known(log.answered, operations, 1);
+    let codes_known = known(marks.codes, counters.marks, 1);
+    kinds_known & changed_known & answered_known & codes_known
 }
 
-// How many marks are begins.
-fn begins(codes: &[u8]) -> usize
-    ensures { (result ≡ begins codes.now) × (result ≤ length codes.now) }
+// Whether columns of so many rows are shorter than the session's limits or its counts.
+pub fn counts_short(counters: Counters, kinds: usize, codes: usize) -> bool
+    ensures { result ≡ counts_short counters kinds codes }
 {
-    let mut n: usize = 0;
-    let mut i = 0;
-    while i < codes.len() {
-        if codes[i] == 1 {
-            n += 1;
-        }
-        i += 1;
+    (kinds < OPERATIONS)
+        | (codes < MARKS)
+        | (kinds < counters.operations)
+        | (codes < counters.marks)
+}
+
+// What refuses a run, whatever its ledger: 7, 12 and 13, in this order.
+fn refusal(
+    told: Told,
+    counters: Counters,
+    media: &[u8],
+    copy: &[u8],
+    log: &LogRef<'_>,
+    marks: &MarksRef<'_>,
+    uneven: bool,
+) -> Result<(), Refusal>
+    ensures { number_in number_of result ≡ lent_number told counters (length media.now) (length copy.now) (log_seen log.now) (marks_seen marks.now) uneven }
+{
+    session::size_refusal(told.geometry, media.len(), copy.len())?;
+    if log.uneven() | marks.uneven() | uneven | !codes_known(counters, log, marks) {
+        return Err(Refusal::MalformedColumns);
     }
-    n
+    if counts_short(counters, log.kinds.len(), marks.codes.len()) {
+        return Err(Refusal::ColumnsTooShort);
+    }
+    Ok(())
 }
 
 // ---- what is found once
@@ -109,6 +95,7 @@ fn outstanding(counters: Counters, media: &[u8], copy: &[u8]) -> bool
         return false;
     }
     let rest = media.len() - start;
+    // `lower` for its bounds, which the slice behind it needs.
     let len = lower(counters.withheld as usize, rest);
     let stop = start + len;
     device_questions::differs_from(media, counters.place, &copy[start..stop])
@@ -116,155 +103,111 @@ fn outstanding(counters: Counters, media: &[u8], copy: &[u8]) -> bool
 
 // ---- all of them
 
-// Where the mark after `i` stands, or the last operation.
-fn next_place(places: &[u64], i: usize, last: usize) -> usize
-    requires { i < length places.now }
-    ensures { result ≡ next_of last (drop (i + 1) places.now) }
-{
-    let next = i + 1;
-    if next < places.len() {
-        places[next] as usize
-    } else {
-        last
-    }
-}
-
-// The mark at `i`: a begin becomes the entry at `n`. How many entries there are then.
-fn enter(
+// The operations and marks that count, with what is found once. A mark is a row of the last three columns.
+#[derive(Clone, Copy)]
+struct Counted<'a> {
     facts: Facts,
-    kinds: &[u8],
-    changed: &[u8],
-    codes: &[u8],
-    mark_ids: &[u32],
-    places: &[u64],
-    i: usize,
-    n: usize,
-    ids: &mut [u32],
-    states: &mut [u8],
-    torn: &mut [u8],
-) -> usize
-    requires { (n ≤ i) × (i < length codes.now) × (length mark_ids.now ≡ length codes.now) × (length places.now ≡ length codes.now) }
-    ensures { (filled result (entered_of ids.new states.new torn.new) ≡ entering facts kinds.now changed.now (get_or codes.now i 0) (get_or mark_ids.now i 0) (get_or places.now i 0) (next_of (length kinds.now) (drop (i + 1) places.now)) (filled n (entered_of ids.old states.old torn.old))) × (result ≤ n + 1) }
-{
-    if codes[i] != 1 {
-        return n;
-    }
-    let more = n + 1;
-    let from = places[i] as usize;
-    let to = next_place(places, i, kinds.len());
-    let entry = records::entry_at(facts, kinds, changed, from, to);
-    let id = mark_ids[i];
-    store_u32(ids, n, id);
-    store_u8(states, n, entry.state);
-    store_u8(torn, n, entry.torn);
-    more
+    kinds: &'a [u8],
+    changed: &'a [u8],
+    codes: &'a [u8],
+    ids: &'a [u32],
+    places: &'a [u64],
+    ghost even: { (length ids.now ≡ length codes.now) × (length places.now ≡ length codes.now) },
 }
 
-// Every mark in order.
-fn fill(
-    facts: Facts,
-    kinds: &[u8],
-    changed: &[u8],
-    codes: &[u8],
-    mark_ids: &[u32],
-    places: &[u64],
-    ids: &mut [u32],
-    states: &mut [u8],
-    torn: &mut [u8],
-) -> usize
-    requires { (length mark_ids.now ≡ length codes.now) × (length places.now ≡ length codes.now) }
-    ensures { filled result (entered_of ids.new states.new torn.new) ≡ fill_from facts kinds.now changed.now codes.now mark_ids.now places.now (filled 0 (entered_of ids.old states.old torn.old)) }
-{
-    let mut n: usize = 0;
-    let mut i = 0;
-    while i < codes.len() {
-        n = enter(
-            facts, kinds, changed, codes, mark_ids, places, i, n, ids, states, torn,
-        );
-        i += 1;
+impl Counted<'_> {
+    // How many entries there are: a mark that begins a record has one.
+    fn begins(&self) -> usize
+        ensures { result ≡ begins self.now.codes.now }
+    {
+        self.codes.iter().filter(|code| **code == 1).count()
     }
-    n
+
+    // Where the next mark stands, or the last operation.
+    fn next_place(&self, at: usize) -> usize
+        requires { at < length self.now.codes.now }
+        ensures { result ≡ next_of (length self.now.kinds.now) (drop (at + 1) self.now.places.now) }
+    {
+        self.places
+            .get(at + 1)
+            .map_or(self.kinds.len(), |place| *place as usize)
+    }
+
+    // The mark at a place: a begin becomes the entry at `n`. How many entries there are then.
+    fn enter(&self, at: usize, n: usize, entries: &mut LedgerMut<'_>) -> usize
+        requires { (n ≤ at) × (at < length self.now.codes.now) }
+        ensures same { SameLedger entries.old entries.new }
+        ensures left { filled result (entered_in entries.new) ≡ entering self.now.facts self.now.kinds.now self.now.changed.now (get_or self.now.codes.now at 0) (get_or self.now.ids.now at 0) (get_or self.now.places.now at 0) (next_of (length self.now.kinds.now) (drop (at + 1) self.now.places.now)) (filled n (entered_in entries.old)) }
+        ensures more { result ≤ n + 1 }
+    {
+        if self.codes[at] != 1 {
+            return n;
+        }
+        let from = self.places[at] as usize;
+        let to = self.next_place(at);
+        let entry = records::entry_at(self.facts, self.kinds, self.changed, from, to);
+        store(entries.ids, n, self.ids[at]);
+        store(entries.states, n, entry.state);
+        store(entries.torn, n, entry.torn);
+        n + 1
+    }
+
+    // Every mark in order, by its index: its record ends where the mark after it stands.
+    fn fill(&self, entries: &mut LedgerMut<'_>) -> usize
+        ensures same { SameLedger entries.old entries.new }
+        ensures left { filled result (entered_in entries.new) ≡ fill_from self.now.facts self.now.kinds.now self.now.changed.now self.now.codes.now self.now.ids.now self.now.places.now (filled 0 (entered_in entries.old)) }
+    {
+        let mut n = 0;
+        for at in 0..self.codes.len() {
+            n = self.enter(at, n, entries);
+        }
+        n
+    }
+
+    // Their ledger: 13 where its columns are too short for it.
+    fn derive(&self, entries: &mut LedgerMut<'_>) -> Result<usize, Refusal>
+        requires { entries_uneven_in (entered_in entries.old) ≡ false }
+        ensures same { SameLedger entries.old entries.new }
+        ensures left { ledgered (numbered number_of result) (entered_in entries.new) ≡ derived_by self.now.facts self.now.kinds.now self.now.changed.now self.now.codes.now self.now.ids.now self.now.places.now (entered_in entries.old) }
+    {
+        let short = entries.ids.len() < self.begins();
+        if short {
+            return Err(Refusal::ColumnsTooShort);
+        }
+        Ok(self.fill(entries))
+    }
 }
 
-// The ledger over the operations and marks that count: 13 where its columns are too short for it.
-fn derive(
-    facts: Facts,
-    kinds: &[u8],
-    changed: &[u8],
-    codes: &[u8],
-    mark_ids: &[u32],
-    places: &[u64],
-    ids: &mut [u32],
-    states: &mut [u8],
-    torn: &mut [u8],
-) -> Derived
-    requires { (length mark_ids.now ≡ length codes.now) × (length places.now ≡ length codes.now) × (length states.old ≡ length ids.old) × (length torn.old ≡ length ids.old) }
-    ensures { ledgered result (entered_of ids.new states.new torn.new) ≡ derived_by facts kinds.now changed.now codes.now mark_ids.now places.now (entered_of ids.old states.old torn.old) }
-{
-    if ids.len() < begins(codes) {
-        return Derived::NotDerived(13);
-    }
-    let n = fill(
-        facts, kinds, changed, codes, mark_ids, places, ids, states, torn,
-    );
-    Derived::Entries(n)
-}
-
-// The ledger of a run, from what the start was told, the counters and all that was lent.
+// The ledger of a run, from what the start was told, the counters and all that was lent: how many entries it has.
 pub fn ledger(
     told: Told,
     counters: Counters,
     media: &[u8],
     copy: &[u8],
-    kinds: &[u8],
-    offsets: &[u32],
-    lens: &[u32],
-    digests: &[u64],
-    changed: &[u8],
-    answered: &[u8],
-    codes: &[u8],
-    mark_ids: &[u32],
-    places: &[u64],
-    ids: &mut [u32],
-    states: &mut [u8],
-    torn: &mut [u8],
-) -> Derived
-    ensures { ledgered result (entered_of ids.new states.new torn.new) ≡ ledger_call told counters media.now copy.now (log_of kinds.now offsets.now lens.now digests.now changed.now answered.now) (marks_of codes.now mark_ids.now places.now) (entered_of ids.old states.old torn.old) }
+    log: &LogRef<'_>,
+    marks: &MarksRef<'_>,
+    entries: &mut LedgerMut<'_>,
+) -> Result<usize, Refusal>
+    ensures same { SameLedger entries.old entries.new }
+    ensures left { ledgered (numbered number_of result) (entered_in entries.new) ≡ ledger_call told counters media.now copy.now (log_seen log.now) (marks_seen marks.now) (entered_in entries.old) }
 {
-    let log = session::log_uneven(
-        kinds.len(),
-        offsets.len(),
-        lens.len(),
-        digests.len(),
-        changed.len(),
-        answered.len(),
-    );
-    let marks = session_marks::marks_uneven(codes.len(), mark_ids.len(), places.len());
-    let entries = entries_uneven(ids.len(), states.len(), torn.len());
-    let geometry = told.geometry;
-    let armed = told.armed;
-    let lengths = length_refusal(geometry, media.len(), copy.len(), log | marks | entries);
-    let contents = code_refusal(counters, kinds, changed, answered, codes);
-    let refused = first_of(lengths, contents);
-    if refused != 0 {
-        return Derived::NotDerived(refused);
-    }
+    let uneven = entries_uneven(entries);
+    refusal(told, counters, media, copy, log, marks, uneven)?;
     let operations = counters.operations;
     let count = counters.marks;
+    let kinds = &log.kinds[..operations];
     let facts = Facts {
-        armed,
+        armed: told.armed,
         outstanding: outstanding(counters, media, copy),
-        barrier: records::last_barrier(&kinds[..operations], &answered[..operations]),
+        barrier: records::last_barrier(kinds, &log.answered[..operations]),
     };
-    derive(
+    let counted = Counted {
         facts,
-        &kinds[..operations],
-        &changed[..operations],
-        &codes[..count],
-        &mark_ids[..count],
-        &places[..count],
-        ids,
-        states,
-        torn,
-    )
+        kinds,
+        changed: &log.changed[..operations],
+        codes: &marks.codes[..count],
+        ids: &marks.ids[..count],
+        places: &marks.places[..count],
+    };
+    counted.derive(entries)
 }

@@ -1,8 +1,7 @@
 -- The layer `ledger` with its answer as numbers. Definitions only; assumes nothing.
 use Rattle.std.specs.Prelude.{ℕ}
-use Rattle.ledger.specs.declared.Derived.{Derived}
-use Rattle.ledger.specs.declared.Derived.TheVariants.{Entries, NotDerived}
-use Rattle.ledger.specs.Ledger.{Entered, Ledgered}
+use Rattle.std.specs.Prelude.{Ok as Entries, Err as NotDerived}
+use Rattle.ledger.specs.Ledger.{Entered, Derived, Ledgered}
 
 -- the number, how many entries the ledger has, and its columns
 pub record LedgerLeft : Type 0 where

@@ -9,7 +9,9 @@ ghost use Rattle.ledger.specs.Ledger.{entered_of, ledger_call};
 ghost use Rattle.session_numbers.specs.Numbers.{told_of, counters_of};
 ghost use Rattle.ledger_exported.specs.Left.{ledger_left, ledgered_over};
 
-use ledger::Derived;
+use basics::Numbered;
+use model::LedgerMut;
+use session::{LogRef, MarksRef};
 
 // `ledger`: the number that refuses it, how many entries there are, and the columns; a refusal leaves both.
 #[unsafe(no_mangle)]
@@ -36,15 +38,25 @@ pub extern "C" fn ledger_of_run(
 {
     let given = session_numbers::told_of(told);
     let counters = session_numbers::counters_of(state);
-    let derived = ledger::ledger(
-        given, counters, media, copy, kinds, offsets, lens, digests, changed, answered, codes,
-        names, places, ids, states, torn,
-    );
-    match derived {
-        Derived::Entries(n) => {
+    let log = LogRef {
+        kinds,
+        offsets,
+        lens,
+        digests,
+        changed,
+        answered,
+    };
+    let marks = MarksRef {
+        codes,
+        ids: names,
+        places,
+    };
+    let mut columns = LedgerMut { ids, states, torn };
+    match ledger::ledger(given, counters, media, copy, &log, &marks, &mut columns) {
+        Ok(n) => {
             *entries = n as u64;
             0
         }
-        Derived::NotDerived(number) => number,
+        Err(refusal) => refusal.number(),
     }
 }

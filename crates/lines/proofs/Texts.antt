@@ -6,7 +6,8 @@
 use mathlib.Core.Path.{◌≡◌, refl, sym, ap, ◌∙◌}
 use mathlib.Core.List.{List, [], ◌∷◌, ◌++◌, append_assoc, append-nil, map, flatten}
 use Prim.Native.Nat.{ℕ}
-use Rattle.oracle.specs.declared.Banks.TheVariants.{Absent}
+use Rattle.std.specs.Prelude.{None as Absent}
+use Rattle.basics.specs.Replies.{number_in}
 use Rattle.oracle.specs.Verdict.{number_of, verdict}
 use Rattle.text.specs.Numbers.{decimal_of}
 use Rattle.script.specs.Print.{joined}
@@ -15,7 +16,7 @@ use Rattle.pieces.specs.Pieces.{letter, letters, tabbed}
 use Rattle.pieces.proofs.Lists.{flatten-append}
 use Rattle.lines.specs.Lines.{Shown, line, judged_line, judge_line, runs_line, refused_text}
 
-pub judge-is : (place : ℕ) (r : Shown) → judge_line place r ≡ judged_line place (number_of (verdict r.ledger (suggested r.ledger) [] Absent)) (suggested r.ledger)
+pub judge-is : (place : ℕ) (r : Shown) → judge_line place r ≡ judged_line place (number_in number_of (verdict r.ledger (suggested r.ledger) [] Absent)) (suggested r.ledger)
 unfolding judge_line
 judge-is place r = refl
 

@@ -1,7 +1,7 @@
 -- The ways out of the functions that write a line: how long each line is, and what is answered where it fits and where it does not.
 -- Assumes nothing.
 use mathlib.Core.Path.{◌≡◌, sym, ap, ◌∙◌}
-use mathlib.Core.Bool.{Bool, true, false, not}
+use mathlib.Core.Bool.{Bool, true, false}
 use mathlib.Core.List.{List, [], ◌∷◌, ◌++◌, map, flatten}
 use Prim.Native.Nat.{ℕ, ◌+◌}
 use native.Mathlib.Omega.{arith}
@@ -13,7 +13,7 @@ use Rattle.script.specs.Print.{joined}
 use Rattle.pieces.specs.Pieces.{letter, Cursor, cursor, after, after_all, letters, tabbed}
 use Rattle.pieces.proofs.Lists.{flatten-append}
 use Rattle.pieces.proofs.Cursors.{joint, last-piece}
-use Rattle.lines.specs.declared.Line.TheVariants.{Past, NotWritten}
+use Rattle.std.specs.Prelude.{Ok as Past, Err as NotWritten}
 use Rattle.lines.specs.Lines.{judged_line, runs_line, refused_text}
 use Rattle.lines.specs.Answers.{Put, put}
 use Rattle.lines.proofs.Texts.{runs-pieces, refused-pieces, judge-pieces}
@@ -34,10 +34,10 @@ module _ (count at : ℕ) (out : List ℕ) (n : ℕ) (w : Places count n) (f : B
   past-runs : at + (n + 6) ≡ at + length (runs_line count)
   past-runs = ap (λ (k : ℕ). at + k) (sym (runs-long count n w))
 
-  pub runs-short : not f ≡ true → ◌≡◌ {A = Put} (record { reply = NotWritten 13; out = out }) (put 0 (runs_line count) at out)
+  pub runs-short : f ≡ false → ◌≡◌ {A = Put} (record { reply = NotWritten 13; out = out }) (put 0 (runs_line count) at out)
   runs-short h = line-short 0 zero_is (runs_line count) at out f (at + (n + 6)) e past-runs h
 
-  pub runs_done : not f ≡ false → (a b : Cursor) (r : ℕ) (new : List ℕ) → a ≡ after_all (letters (114 ∷ 117 ∷ 110 ∷ 115 ∷ [])) (cursor at out)
+  pub runs_done : f ≡ true → (a b : Cursor) (r : ℕ) (new : List ℕ) → a ≡ after_all (letters (114 ∷ 117 ∷ 110 ∷ 115 ∷ [])) (cursor at out)
       → b ≡ after_all (letter 9 ∷ decimal_of count ∷ []) a → cursor r new ≡ after (letter 10) b
       → ◌≡◌ {A = Put} (record { reply = Past r; out = new }) (put 0 (runs_line count) at out)
   runs_done h a b r new i j k =
@@ -59,10 +59,10 @@ module _ (number line at : ℕ) (out : List ℕ) (n m : ℕ) (w : Places number 
   past-refused : at + (n + m + 10) ≡ at + length (refused_text number line)
   past-refused = ap (λ (k : ℕ). at + k) (sym (refused-long number line n m w v))
 
-  pub refused-short : not f ≡ true → ◌≡◌ {A = Put} (record { reply = NotWritten 13; out = out }) (put 0 (refused_text number line) at out)
+  pub refused-short : f ≡ false → ◌≡◌ {A = Put} (record { reply = NotWritten 13; out = out }) (put 0 (refused_text number line) at out)
   refused-short h = line-short 0 zero_is (refused_text number line) at out f (at + (n + m + 10)) e past-refused h
 
-  pub refused-done : not f ≡ false → (a b c : Cursor) (r : ℕ) (new : List ℕ) → a ≡ after_all (letters (114 ∷ 101 ∷ 102 ∷ 117 ∷ 115 ∷ 101 ∷ 100 ∷ [])) (cursor at out)
+  pub refused-done : f ≡ true → (a b c : Cursor) (r : ℕ) (new : List ℕ) → a ≡ after_all (letters (114 ∷ 101 ∷ 102 ∷ 117 ∷ 115 ∷ 101 ∷ 100 ∷ [])) (cursor at out)
       → b ≡ after_all (letter 9 ∷ decimal_of number ∷ []) a → c ≡ after_all (letter 9 ∷ decimal_of line ∷ []) b → cursor r new ≡ after (letter 10) c
       → ◌≡◌ {A = Put} (record { reply = Past r; out = new }) (put 0 (refused_text number line) at out)
   refused-done h a b c r new i j k g =
@@ -90,10 +90,10 @@ module _ (place number : ℕ) (history : List ℕ) (at : ℕ) (out : List ℕ) (
   past-judged : at + (n + m + 2) + length (flatten (tabbed (map decimal_of history))) ≡ at + length (judged_line place number history)
   past-judged = omega (arith, judged-long place number history n m w v)
 
-  pub judge-short : not f ≡ true → ◌≡◌ {A = Put} (record { reply = NotWritten 13; out = out }) (put 0 (judged_line place number history) at out)
+  pub judge-short : f ≡ false → ◌≡◌ {A = Put} (record { reply = NotWritten 13; out = out }) (put 0 (judged_line place number history) at out)
   judge-short h = line-short 0 zero_is (judged_line place number history) at out f (at + (n + m + 2) + length (flatten (tabbed (map decimal_of history)))) e past-judged h
 
-  pub judge-done : not f ≡ false → (a b c : Cursor) (r : ℕ) (new : List ℕ) → a ≡ after (decimal_of place) (cursor at out)
+  pub judge-done : f ≡ true → (a b c : Cursor) (r : ℕ) (new : List ℕ) → a ≡ after (decimal_of place) (cursor at out)
       → b ≡ after_all (letter 9 ∷ decimal_of number ∷ []) a → c ≡ after_all (tabbed (map decimal_of history)) b → cursor r new ≡ after (letter 10) c
       → ◌≡◌ {A = Put} (record { reply = Past r; out = new }) (put 0 (judged_line place number history) at out)
   unfolding after_all

@@ -1,9 +1,11 @@
 -- A line written into a lent buffer from a place on. Definitions only; assumes nothing.
-use Rattle.std.specs.Prelude.{cond, List, [], ◌∷◌, ℕ, ◌+◌, length, eqb}
+use Rattle.std.specs.Prelude.{cond, List, [], ◌∷◌, ℕ, ◌+◌, length, eqb, Result, Ok as Past, Err as NotWritten}
 use Rattle.basics.specs.Tests.{unless, first_of}
 use Rattle.basics.specs.Parts.{within, overlaid}
-use Rattle.lines.specs.declared.Line.{Line}
-use Rattle.lines.specs.declared.Line.TheVariants.{Past, NotWritten}
+
+-- the place past a line's LF; or the number that refuses it
+abbrev pub Line : Type 0
+Line = Result ℕ ℕ
 
 -- what is answered, and the buffer then
 pub record Put : Type 0 where

@@ -2,3 +2,4 @@
 -- Definitions only; assumes nothing.
 pub mod Lines
 pub mod Answers
+pub mod Written

@@ -1,5 +1,6 @@
 -- Document 01, "Scripts and the two programs": the text of `sweep` and `judge`. Definitions only; assumes nothing.
-use Rattle.std.specs.Prelude.{cond, List, [], ◌∷◌, ◌++◌, map, ℕ, suc, length}
+use Rattle.std.specs.Prelude.{cond, List, [], ◌∷◌, ◌++◌, map, ℕ, suc, length, None as Nothing, Some as At, None as Absent}
+use Rattle.basics.specs.Replies.{number_in}
 use Rattle.inject.specs.declared.Progress.{Progress}
 use Rattle.inject.specs.declared.Progress.TheVariants.{None, Bytes, Whole}
 use Rattle.inject.specs.declared.Interruption.{Interruption}
@@ -9,10 +10,8 @@ use Rattle.landing.specs.declared.Stop.TheVariants.{Running, PowerLost, CoreRese
 use Rattle.model.specs.declared.Durability.{Durability}
 use Rattle.model.specs.declared.Durability.TheVariants.{Attempted, PossiblyDurable, Acknowledged}
 use Rattle.model.specs.Ledger.{Entry, is_torn}
-use Rattle.oracle.specs.declared.Banks.TheVariants.{Absent}
 use Rattle.oracle.specs.Verdict.{number_of, verdict}
-use Rattle.session.specs.declared.Armed.{Armed}
-use Rattle.session.specs.declared.Armed.TheVariants.{Nothing, At}
+use Rattle.session.specs.Armed.{Armed}
 use Rattle.text.specs.Numbers.{decimal_of}
 use Rattle.script.specs.Print.{joined}
 use Rattle.history.specs.History.{suggested}
@@ -72,7 +71,7 @@ judged_line place number history = line (decimal_of place ∷ decimal_of number 
 
 -- "It passes nothing dispatched and no bank count."
 unfoldable pub judge_line : (place : ℕ) → Shown → List ℕ
-judge_line place r = judged_line place (number_of (verdict r.ledger (suggested r.ledger) [] Absent)) (suggested r.ledger)
+judge_line place r = judged_line place (number_in number_of (verdict r.ledger (suggested r.ledger) [] Absent)) (suggested r.ledger)
 
 -- "`runs`, count"
 abbrev pub runs_line : (count : ℕ) → List ℕ

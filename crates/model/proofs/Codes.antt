@@ -1,60 +1,53 @@
--- A column of codes that a loop reads with a flag: the flag and what is left say what the whole column says.
---     codes-over    a code above the last with a meaning settles it
---     codes-next    any other leaves it to the rest
---     codes-end     past the column the flag is the answer
--- And the columns of a ledger: `refusals`, the number that each test of them gives, and `refused_none`, what is known where
--- they are not refused. Assumes nothing.
-use mathlib.Core.Path.{◌≡◌, sym, ap, ◌∙◌}
-use mathlib.Core.Bool.{Bool, true, false, not, ◌&&◌, and-true, and-false}
+-- A column of codes that a loop reads with a flag, and the columns of a ledger.
+--     codes_next, codes_end     the flag and what is left say what the whole column says: one code more, and none left
+--     a-ledger, no-ledger       whether the columns are refused
+--     refused_none              what is known of columns that are not
+-- Assumes nothing.
+use mathlib.Core.Path.{◌≡◌, refl, sym, ap, ◌∙◌}
+use mathlib.Core.Bool.{Bool, true, false, ◌&&◌, and-true, and_assoc}
 use mathlib.Core.List.{List, [], ◌∷◌}
 use Prim.Native.Nat.{ℕ, ◌+◌, ◌≤◌, ◌<◌}
 use lib.ListN.{length, get_or, drop}
-use lib.Dec.{eqb}
-use borrow.Author.Tests.{le-leb, lt-leb, eq-eqb, ne_eqb, eqb-true, not-true, not-false}
+use lib.Dec.{eqb, leb}
+use borrow.Author.Tests.{eqb-true}
 use Rattle.basics.specs.Tests.{unless, first_of}
 use Rattle.basics.proofs.Scans.{at-step, at-end}
 use Rattle.basics.proofs.Tests.{unless-zero, first_of-zero}
 use Rattle.model.specs.Columns.{all_up_to, refused}
 
-module _ (top : ℕ) (s : List ℕ) (i : ℕ) (f : Bool) (e : all_up_to top s ≡ (f && all_up_to top (drop i s))) where
-  pub codes-over : i < length s → top < get_or s i 0 → all_up_to top s ≡ false
+module _ (top : ℕ) (s : List ℕ) (f : Bool) where
+  pub codes_next : (i : ℕ) → all_up_to top s ≡ (f && all_up_to top (drop i s)) → i < length s
+      → all_up_to top s ≡ ((f && leb (get_or s i 0) top) && all_up_to top (drop (i + 1) s))
   unfolding all_up_to
-  codes-over h t = e ∙ ap (λ (b : Bool). f && b) (at-step (all_up_to top) s i 0 h ∙ simp (lt-leb _ _ t)) ∙ and-false f
+  codes_next i e h =
+      e ∙ ap (λ (b : Bool). f && b) (at-step (all_up_to top) s i 0 h) ∙ sym (and_assoc f (leb (get_or s i 0) top) (all_up_to top (drop (i + 1) s)))
 
-  pub codes-next : i < length s → get_or s i 0 ≤ top → all_up_to top s ≡ (f && all_up_to top (drop (i + 1) s))
+  pub codes_end : (i : ℕ) → all_up_to top s ≡ (f && all_up_to top (drop i s)) → length s ≤ i → f ≡ all_up_to top s
   unfolding all_up_to
-  codes-next h t = e ∙ ap (λ (b : Bool). f && b) (at-step (all_up_to top) s i 0 h ∙ simp (le-leb _ _ t))
+  codes_end i e h = sym (e ∙ ap (λ (b : Bool). f && b) (at-end (all_up_to top) s i h) ∙ and-true f)
 
-  pub codes-end : length s ≤ i → f ≡ all_up_to top s
-  unfolding all_up_to
-  codes-end h = sym (e ∙ ap (λ (b : Bool). f && b) (at-end (all_up_to top) s i h) ∙ and-true f)
+-- four tests that refuse with one number are one test
+tests : (a b c d : Bool) → first_of (unless a 12 ∷ unless b 12 ∷ unless c 12 ∷ unless d 12 ∷ []) ≡ unless (((a && b) && c) && d) 12
+unfolding first_of unless
+tests false b c d = refl
+tests true false c d = refl
+tests true true false d = refl
+tests true true true false = refl
+tests true true true true = refl
 
--- the number that each test gives: r and t are what the codes' tests say
-module _ (is ss ts : List ℕ) where
-  pub unequal-states : (length ss ≡ length is → ⊥) → 12 ≡ refused is ss ts
-  unfolding refused first_of unless
-  unequal-states n = simp (ne_eqb _ _ n)
+-- what the code says of the columns: r and t are what it says of their codes
+module _ (is ss ts : List ℕ) (r t : Bool) (e : r ≡ all_up_to 2 ss) (g : t ≡ all_up_to 1 ts) where
+  told : refused is ss ts ≡ unless (((eqb (length ss) (length is) && eqb (length ts) (length is)) && r) && t) 12
+  unfolding refused
+  told = tests _ _ _ _ ∙ (λ i. unless (((eqb (length ss) (length is) && eqb (length ts) (length is)) && sym e i) && sym g i) 12)
 
-  module _ (p : length ss ≡ length is) where
-    pub unequal-torn : (length ts ≡ length is → ⊥) → 12 ≡ refused is ss ts
-    unfolding refused first_of unless
-    unequal-torn n = simp (eq-eqb _ _ p, ne_eqb _ _ n)
+  pub a-ledger : (((eqb (length ss) (length is) && eqb (length ts) (length is)) && r) && t) ≡ true → 0 ≡ refused is ss ts
+  unfolding unless
+  a-ledger h = sym (told ∙ ap (λ (b : Bool). unless b 12) h)
 
-    module _ (q : length ts ≡ length is) (r : Bool) (e : r ≡ all_up_to 2 ss) where
-      pub no-such-state : not r ≡ true → 12 ≡ refused is ss ts
-      unfolding refused first_of unless
-      no-such-state n = simp (eq-eqb _ _ p, eq-eqb _ _ q, sym e, not-true r n)
-
-      module _ (k : not r ≡ false) (t : Bool) (f : t ≡ all_up_to 1 ts) where
-        pub no-such-torn : not t ≡ true → 12 ≡ refused is ss ts
-        unfolding refused first_of unless
-        no-such-torn n = simp (eq-eqb _ _ p, eq-eqb _ _ q, sym e, not-false r k, sym f, not-true t n)
-
-        pub a-ledger : not t ≡ false → 0 ≡ refused is ss ts
-        unfolding refused first_of unless
-        a-ledger n = simp (eq-eqb _ _ p, eq-eqb _ _ q, sym e, not-false r k, sym f, not-false t n)
-
-pub ruleset refusals = (unequal-states, unequal-torn, no-such-state, no-such-torn, a-ledger)
+  pub no-ledger : (((eqb (length ss) (length is) && eqb (length ts) (length is)) && r) && t) ≡ false → 12 ≡ refused is ss ts
+  unfolding unless
+  no-ledger h = sym (told ∙ ap (λ (b : Bool). unless b 12) h)
 
 -- what is known of columns that are not refused
 pub record Sound (is ss ts : List ℕ) : Type 0 where

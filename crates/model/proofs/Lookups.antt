@@ -6,7 +6,7 @@
 use mathlib.Core.Path.{◌≡◌, refl, sym}
 use mathlib.Core.Logic.{◌⊎◌, inl, inr, ⊎_elim}
 use mathlib.Core.Bool.{Bool, true, false, cond, true≢false}
-use mathlib.Core.Option.{none, some}
+use Rattle.std.specs.Prelude.{Option, None, Some, option_map}
 use mathlib.Core.List.Memᴰ
 use mathlib.Core.List.{List, [], ◌∷◌, Memᴰ}
 use Prim.Native.Nat.{ℕ, suc, ◌<◌}
@@ -16,52 +16,50 @@ use lib.Dec.{eqb}
 use borrow.Author.Tests.{eqb-true, eqb-false}
 use Rattle.model.specs.Ledger.{Entry, ids, picked, lookup, passes}
 use Rattle.model.specs.Columns.{entry_of, ledger_of}
-use Rattle.id_columns.specs.Ids.{further, place_of, Distinct}
-use Rattle.id_columns.specs.declared.Place.{Place}
-use Rattle.id_columns.specs.declared.Place.TheVariants.{NoPlace, PlaceIs}
+use Rattle.id_columns.specs.Ids.{place_of, Distinct}
 
 -- ---- in columns
 
-no_place : {n : ℕ} → PlaceIs n ≡ NoPlace → ⊥
+no_place : {n : ℕ} → ◌≡◌ {A = Option ℕ} (Some n) None → ⊥
 no_place {n} e = let z : ◌≡◌ {A = ℕ} 0 1 = cc in omega arith
 
-further-none : (p : Place) → further p ≡ NoPlace → p ≡ NoPlace
-further-none NoPlace e = refl
-further-none (PlaceIs n) e = absurd (no_place e)
+later_none : (p : Option ℕ) → option_map suc p ≡ None → p ≡ None
+later_none None e = refl
+later_none (Some n) e = absurd (no_place e)
 
-pub looked-none : (x : ℕ) (is ss ts : List ℕ) → place_of x is ≡ NoPlace → lookup x (ledger_of is ss ts) ≡ none
+pub looked-none : (x : ℕ) (is ss ts : List ℕ) → place_of x is ≡ None → lookup x (ledger_of is ss ts) ≡ None
 unfolding place_of lookup ledger_of
 looked-none x [] ss ts e = refl
 looked-none x (i ∷ is) [] ts e = refl
 looked-none x (i ∷ is) (s ∷ ss) [] e = refl
 looked-none x (i ∷ is) (s ∷ ss) (t ∷ ts) e = step (looked-none x is ss ts) (eqb i x) e
   where
-    step : (place_of x is ≡ NoPlace → lookup x (ledger_of is ss ts) ≡ none) → (b : Bool)
-        → cond b (PlaceIs 0) (further (place_of x is)) ≡ NoPlace → cond b (some (entry_of i s t)) (lookup x (ledger_of is ss ts)) ≡ none
+    step : (place_of x is ≡ None → lookup x (ledger_of is ss ts) ≡ None) → (b : Bool)
+        → cond b (Some 0) (option_map suc (place_of x is)) ≡ None → cond b (Some (entry_of i s t)) (lookup x (ledger_of is ss ts)) ≡ None
     step r true e = absurd (no_place e)
-    step r false e = r (further-none (place_of x is) e)
+    step r false e = r (later_none (place_of x is) e)
 
 pub record LookedAt (x : ℕ) (is ss ts : List ℕ) (k : ℕ) : Type 0 where
   pub below : k < length is
-  pub found : lookup x (ledger_of is ss ts) ≡ some (entry_of (get_or is k 0) (get_or ss k 0) (get_or ts k 0))
+  pub found : lookup x (ledger_of is ss ts) ≡ Some (entry_of (get_or is k 0) (get_or ss k 0) (get_or ts k 0))
 
-pub looked-at : (x : ℕ) (is ss ts : List ℕ) (k : ℕ) → length ss ≡ length is → length ts ≡ length is → place_of x is ≡ PlaceIs k → LookedAt x is ss ts k
+pub looked-at : (x : ℕ) (is ss ts : List ℕ) (k : ℕ) → length ss ≡ length is → length ts ≡ length is → place_of x is ≡ Some k → LookedAt x is ss ts k
 unfolding place_of lookup ledger_of
 looked-at x [] ss ts k p q e = absurd (no_place (sym e))
 looked-at x (i ∷ is) [] ts k p q e = absurd (omega arith)
 looked-at x (i ∷ is) (s ∷ ss) [] k p q e = absurd (omega arith)
 looked-at x (i ∷ is) (s ∷ ss) (t ∷ ts) k p q e = step (λ j. looked-at x is ss ts j (omega arith) (omega arith)) (eqb i x) refl k e
   where
-    later : ((j : ℕ) → place_of x is ≡ PlaceIs j → LookedAt x is ss ts j) → eqb i x ≡ false → (o : Place) → place_of x is ≡ o → (k : ℕ)
-        → further o ≡ PlaceIs k → LookedAt x (i ∷ is) (s ∷ ss) (t ∷ ts) k
-    later r b NoPlace o k e = absurd (no_place (sym e))
-    later r b (PlaceIs j) o k e =
+    later : ((j : ℕ) → place_of x is ≡ Some j → LookedAt x is ss ts j) → eqb i x ≡ false → (o : Option ℕ) → place_of x is ≡ o → (k : ℕ)
+        → option_map suc o ≡ Some k → LookedAt x (i ∷ is) (s ∷ ss) (t ∷ ts) k
+    later r b None o k e = absurd (no_place (sym e))
+    later r b (Some j) o k e =
         let z : k ≡ suc j = cc in
         let g : LookedAt x is ss ts j = r j o in
         rw z (record { below = omega (arith, g.below); found = simp (b, g.found) })
 
-    step : ((j : ℕ) → place_of x is ≡ PlaceIs j → LookedAt x is ss ts j) → (b : Bool) → eqb i x ≡ b → (k : ℕ)
-        → cond b (PlaceIs 0) (further (place_of x is)) ≡ PlaceIs k → LookedAt x (i ∷ is) (s ∷ ss) (t ∷ ts) k
+    step : ((j : ℕ) → place_of x is ≡ Some j → LookedAt x is ss ts j) → (b : Bool) → eqb i x ≡ b → (k : ℕ)
+        → cond b (Some 0) (option_map suc (place_of x is)) ≡ Some k → LookedAt x (i ∷ is) (s ∷ ss) (t ∷ ts) k
     step r true b k e = let z : k ≡ 0 = cc in rw z (record { below = omega arith; found = simp b })
     step r false b k e = later r b (place_of x is) refl k e
 
@@ -101,7 +99,7 @@ module _ (test : Entry → Bool) (x : ℕ) where
   looked-in (f ∷ es) e = step (looked-in es) (eqb f.id x) refl e
     where
       step : (passes test (lookup x es) ≡ true → Memᴰ x (ids (picked test es))) → (b : Bool) → eqb f.id x ≡ b
-          → passes test (cond b (some f) (lookup x es)) ≡ true → Memᴰ x (ids (picked test (f ∷ es)))
+          → passes test (cond b (Some f) (lookup x es)) ≡ true → Memᴰ x (ids (picked test (f ∷ es)))
       step r true b e = picked-head f es (sym (eqb-true f.id x b)) e
       step r false b e = picked-tail f es (r e)
 
@@ -112,7 +110,7 @@ module _ (test : Entry → Bool) (x : ℕ) where
   looked-only (f ∷ es) d m = step (looked-only es d.1) (eqb f.id x) refl (in-picked f es m)
     where
       step : (Memᴰ x (ids (picked test es)) → passes test (lookup x es) ≡ true) → (b : Bool) → eqb f.id x ≡ b
-          → ((x ≡ f.id) × (test f ≡ true)) ⊎ Memᴰ x (ids (picked test es)) → passes test (cond b (some f) (lookup x es)) ≡ true
+          → ((x ≡ f.id) × (test f ≡ true)) ⊎ Memᴰ x (ids (picked test es)) → passes test (cond b (Some f) (lookup x es)) ≡ true
       step r true b (inl w) = w.1
       step r true b (inr m) = absurd (d.0 (Memᴰ.cast (eqb-true f.id x b) (picked-in es m)))
       step r false b (inl w) = absurd (eqb-false f.id x b (sym w.0))

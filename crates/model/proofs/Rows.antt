@@ -1,6 +1,7 @@
 -- The ledger that three columns of one length hold, row by row, and the ids that a loop over two of the columns picks.
 --     row_step, row-end               what is left of the ledger from row i on
 --     length-ledger, ids-are          it has a row for each id, and its ids are the first column
+--     len-refused, len_is             what `len` answers
 --     attempted-row, committed-row, acknowledged-row, torn-row     what a row's codes say
 --     committed-from, acknowledged-from                  the committed and the acknowledged ids as a loop picks them
 --     from-picked, from-left, from_end                   a turn of that loop, and its end
@@ -15,9 +16,16 @@ use lib.ListN.{length, get_or, drop, drop_of_length-le}
 use lib.Seq.{drop-cons}
 use lib.Dec.{eqb, leb}
 use borrow.Author.Tests.{le-leb, lt-leb, eqb-true, eqb-false}
+use Rattle.std.specs.Prelude.{Ok, Err}
+use Rattle.basics.proofs.Replies.{taken, refused as is_refused}
+use Rattle.refusals.specs.Numbers.{number_of}
+use Rattle.refusals.specs.Nonzero.{refusal-nonzero}
+use Rattle.refusals.specs.declared.Refusal.{Refusal}
 use Rattle.model.specs.Ledger.{Entry, code_of, is_attempted, is_committed, is_acknowledged, is_torn, ids, picked, committed, acknowledged}
-use Rattle.model.specs.Columns.{entry_of, ledger_of}
+use Rattle.model.specs.Columns.{entry_of, ledger_of, refused}
 use Rattle.model.specs.Scans.{ids_from}
+use Rattle.model.specs.Answers.{len_asked}
+use Rattle.model.proofs.Codes.{Sound, refused_none}
 use Rattle.model.specs.declared.Durability.TheVariants.{Attempted, PossiblyDurable, Acknowledged}
 
 pub length-ledger : (is ss ts : List ℕ) → length ss ≡ length is → length ts ≡ length is → length (ledger_of is ss ts) ≡ length is
@@ -33,6 +41,18 @@ ids-are [] ss ts p q = refl
 ids-are (i ∷ is) [] ts p q = absurd (omega arith)
 ids-are (i ∷ is) (s ∷ ss) [] p q = absurd (omega arith)
 ids-are (i ∷ is) (s ∷ ss) (t ∷ ts) p q = ap (λ (l : List ℕ). i ∷ l) (ids-are is ss ts (omega arith) (omega arith))
+
+-- what `len` answers where the columns are refused, and where they are not
+module _ (is ss ts : List ℕ) where
+  pub len-refused : (e : Refusal) → number_of e ≡ refused is ss ts → Err (number_of e) ≡ len_asked is ss ts
+  unfolding len_asked
+  len-refused e told = is_refused number_of refusal-nonzero _ e _ told
+
+  pub len_is : 0 ≡ refused is ss ts → Ok (length is) ≡ len_asked is ss ts
+  unfolding len_asked
+  len_is told =
+      let g : Sound is ss ts = refused_none is ss ts (sym told) in
+      ap Ok (sym (length-ledger is ss ts g.states g.torns)) ∙ taken number_of refusal-nonzero _ _ told
 
 row : (is ss ts : List ℕ) (k : ℕ) → length ss ≡ length is → length ts ≡ length is → k < length is
     → drop k (ledger_of is ss ts) ≡ entry_of (get_or is k 0) (get_or ss k 0) (get_or ts k 0) ∷ drop (suc k) (ledger_of is ss ts)

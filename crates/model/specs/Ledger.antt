@@ -1,7 +1,6 @@
 -- The ledger of document 01, "model.rs", over any list of entries: its states, its tests, its lookups, and the ids that are
 -- committed, acknowledged and torn. Assumes nothing.
-use Rattle.std.specs.Prelude.{Bool, false, cond, not, ◌&&◌, List, [], ◌∷◌, ℕ, eqb}
-use Rattle.std.proofs.Math.Option.{Option, none, some}
+use Rattle.std.specs.Prelude.{Bool, false, cond, not, ◌&&◌, List, [], ◌∷◌, ℕ, eqb, Option, None, Some}
 use Rattle.model.specs.declared.Durability.{Durability}
 use Rattle.model.specs.declared.Durability.TheVariants.{Attempted, PossiblyDurable, Acknowledged}
 
@@ -55,10 +54,10 @@ torn l = ids (picked is_torn l)
 
 -- "Lookups take an id's first entry."
 unfoldable pub lookup : ℕ → List Entry → Option Entry
-lookup x [] = none
-lookup x (e ∷ es) = cond (eqb e.id x) (some e) (lookup x es)
+lookup x [] = None
+lookup x (e ∷ es) = cond (eqb e.id x) (Some e) (lookup x es)
 
 -- what a test says of the entry that a lookup found: no entry passes none
 abbrev pub passes : (Entry → Bool) → Option Entry → Bool
-passes test none = false
-passes test (some e) = test e
+passes test None = false
+passes test (Some e) = test e

@@ -5,11 +5,15 @@
 #![tactic(auto)]
 
 ghost use Rattle.std.specs.Prelude.{◌≡◌};
+ghost use Rattle.basics.specs.Replies.{number_in, numbered};
+ghost use Rattle.refusals.specs.Numbers.{number_of};
 ghost use Rattle.model.specs.Columns.{all_up_to, refused};
 ghost use Rattle.model.specs.Answers.{len_asked};
 
-// What recovery is allowed, and required, to do with a record.
-#[derive(Clone, Copy)]
+use refusals::Refusal;
+
+// What recovery is allowed, and required, to do with a record. As a number it is the code that the column of states holds.
+#[derive(Clone, Copy, Debug, PartialEq, Eq, PartialOrd, Ord)]
 pub enum Durability {
     // Nothing of it reached media. Recovery must not produce it.
     Attempted,
@@ -19,11 +23,20 @@ pub enum Durability {
     Acknowledged,
 }
 
-// How many entries or ids there are.
+// A ledger's three columns, lent to be read.
 #[derive(Clone, Copy)]
-pub enum ListAnswer {
-    ListRefused(u8),
-    ListIs(usize),
+pub struct LedgerRef<'a> {
+    pub ids: &'a [u32],
+    pub states: &'a [u8],
+    pub torn: &'a [u8],
+}
+
+// The same columns, lent to be written.
+#[derive(Drop)]
+pub struct LedgerMut<'a> {
+    pub ids: &'a mut [u32],
+    pub states: &'a mut [u8],
+    pub torn: &'a mut [u8],
 }
 
 // Whether no code of a column is above `top`. Every code is read: with no way out of the loop it is compiled to vectors.
@@ -31,43 +44,31 @@ pub fn all_up_to(codes: &[u8], top: u8) -> bool
     ensures { result ≡ all_up_to top codes.now }
 {
     let mut sound = true;
-    let mut i = 0;
-    while i < codes.len() {
-        if top < codes[i] {
-            sound = false;
-        }
-        i += 1;
+    for code in codes {
+        sound &= *code <= top;
     }
     sound
 }
 
-// 12 for three columns that hold no ledger: of unequal lengths, with a state above 2, or with a torn code above 1. 0 for
-// columns that hold one.
-pub fn refusal(ids: &[u32], states: &[u8], torn: &[u8]) -> u8
-    ensures { result ≡ refused ids.now states.now torn.now }
-{
-    if states.len() != ids.len() {
-        return 12;
+impl LedgerRef<'_> {
+    // 12 for three columns that hold no ledger: of unequal lengths, with a state above 2, or with a torn code above 1.
+    pub fn refusal(&self) -> Result<(), Refusal>
+        ensures { number_in number_of result ≡ refused self.now.ids.now self.now.states.now self.now.torn.now }
+    {
+        let entries = self.ids.len();
+        let equal = (self.states.len() == entries) & (self.torn.len() == entries);
+        if equal & all_up_to(self.states, 2) & all_up_to(self.torn, 1) {
+            Ok(())
+        } else {
+            Err(Refusal::MalformedColumns)
+        }
     }
-    if torn.len() != ids.len() {
-        return 12;
-    }
-    if !all_up_to(states, 2) {
-        return 12;
-    }
-    if !all_up_to(torn, 1) {
-        return 12;
-    }
-    0
-}
 
-// How many records the run declared.
-pub fn len(ids: &[u32], states: &[u8], torn: &[u8]) -> ListAnswer
-    ensures { result ≡ len_asked ids.now states.now torn.now }
-{
-    let refused = refusal(ids, states, torn);
-    if refused != 0 {
-        return ListAnswer::ListRefused(refused);
+    // How many records the run declared.
+    pub fn len(&self) -> Result<usize, Refusal>
+        ensures { numbered number_of result ≡ len_asked self.now.ids.now self.now.states.now self.now.torn.now }
+    {
+        self.refusal()?;
+        Ok(self.ids.len())
     }
-    ListAnswer::ListIs(ids.len())
 }

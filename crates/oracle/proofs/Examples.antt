@@ -6,14 +6,14 @@ use Rattle.basics.specs.Tests.{unless, first_of}
 use Rattle.model.specs.Ledger.{ids, picked, committed, acknowledged, lookup}
 use Rattle.model.specs.Columns.{ledger_of, all_up_to, refused}
 use Rattle.id_columns.specs.Ids.{has}
-use Rattle.oracle.specs.Verdict.{number_of, Value, nothing, number, values_of, first_breach, seen_before, insert, rising, fault_of, first_fault, differs, unrecovered, first_lost, verdict, verified}
-use Rattle.oracle.specs.declared.Banks.{Banks}
-use Rattle.oracle.specs.declared.Banks.TheVariants.{Absent, Count}
+use Rattle.std.specs.Prelude.{None as nothing, Some as number, None as Absent, Some as Count}
+use Rattle.basics.specs.Replies.{number_in}
+use Rattle.oracle.specs.Verdict.{number_of, Value, Banks, values_in, first_breach, seen_before, insert, rising, fault_of, first_fault, differs, unrecovered, first_lost, verdict, verified}
 
 -- the columns' ids, states and torn, the history, what was dispatched, and the banks: this number with these values
 pub record Says (is ss ts h d : List ℕ) (b : Banks) (n : ℕ) (vs : List Value) : Type 0 where
-  pub numbered : number_of (verified is ss ts h d b) ≡ n
-  pub valued : values_of (verified is ss ts h d b) ≡ vs
+  pub numbered : number_in number_of (verified is ss ts h d b) ≡ n
+  pub valued : values_in (verified is ss ts h d b) ≡ vs
 
 pub record Table : Type 0 where
   -- "Ledger ids 5, 5 with bank count 0: 31."
@@ -37,7 +37,7 @@ pub record Table : Type 0 where
   pub no-state : Says (1 ∷ []) (3 ∷ []) (0 ∷ []) [] [] Absent 12 []
 
 pub table : Table
-unfolding unless first_of ids picked committed acknowledged lookup ledger_of all_up_to refused has number_of values_of first_breach seen_before insert rising fault_of first_fault differs unrecovered first_lost verdict verified
+unfolding unless first_of ids picked committed acknowledged lookup ledger_of all_up_to refused has first_breach seen_before insert rising fault_of first_fault differs unrecovered first_lost verdict verified
 table = record {
   twice = record { numbered = refl; valued = refl };
   rises = record { numbered = refl; valued = refl };

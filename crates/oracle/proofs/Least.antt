@@ -1,32 +1,44 @@
 -- The first breach by rising value is the breach of the least id that has one.
 --     in-rising, rising-in     by rising value stand the same ids
 --     rising-sorted            and they rise
---     least_step               a turn of the loop that keeps the least so far
---     least-is-first           what that loop finds gives the first breach by rising value
+--     least-is-first           the least id with a fault gives the first breach by rising value
 -- Assumes nothing.
 use mathlib.Core.Path.{◌≡◌, refl, ap, sym, ◌∙◌}
 use mathlib.Core.Logic.{◌⊎◌, inl, inr, ⊎_elim}
 use mathlib.Core.Bool.{Bool, true, false, cond}
 use mathlib.Core.List.Memᴰ
 use mathlib.Core.List.{List, [], ◌∷◌, map, Memᴰ}
-use Prim.Native.Nat.{ℕ, min, ◌+◌, ◌<◌, ◌≤◌}
+use Prim.Native.Nat.{ℕ, min, ◌<◌, ◌≤◌}
 use native.Mathlib.Omega.{arith}
 use native.Mathlib.Nat.{min-eq_left, le_trans}
-use lib.ListN.{length, get_or, drop}
 use lib.Dec.{leb}
 use borrow.Author.Tests.{leb-true, leb-false}
-use Rattle.basics.proofs.Scans.{at-step}
-use Rattle.oracle.specs.Verdict.{accepts, first_breach, insert, rising}
-use Rattle.oracle.specs.Scans.{lesser_of, faulty_id, least_faulty, verdict_at}
-use Rattle.oracle.specs.declared.RecordOption.{RecordOption}
-use Rattle.oracle.specs.declared.RecordOption.TheVariants.{NoRecord, Record}
-use Rattle.oracle.specs.declared.Verdict.{Verdict}
+use Rattle.std.specs.Prelude.{Option, None, Some, Ok, Err, filter, fold}
+use Rattle.std.specs.List.{reduce}
+use Rattle.std.specs.Result.{is_err}
+use Rattle.oracle.specs.Verdict.{Verdict, Accepted, first_breach, insert, rising}
+use Rattle.oracle.specs.Scans.{least_faulty}
+
+-- the lesser of two ids, where there are any
+abbrev lesser_of : Option ℕ → Option ℕ → Option ℕ
+lesser_of None b = b
+lesser_of (Some x) None = Some x
+lesser_of (Some x) (Some y) = Some (min x y)
+
+-- an id at which a test does not accept
+abbrev faulty_id : (ℕ → Verdict) → ℕ → Option ℕ
+faulty_id test x = cond (is_err (test x)) (Some x) None
+
+-- what the test says at that id
+abbrev pub verdict_at : (ℕ → Verdict) → Option ℕ → Verdict
+verdict_at test None = Accepted
+verdict_at test (Some x) = test x
 
 -- ---- `lesser_of` in any grouping and order
 
-pub lesser-none : (a : RecordOption) → lesser_of a NoRecord ≡ a
-lesser-none NoRecord = refl
-lesser-none (Record x) = refl
+pub lesser-none : (a : Option ℕ) → lesser_of a None ≡ a
+lesser-none None = refl
+lesser-none (Some x) = refl
 
 min_assoc : (x y z : ℕ) → min x (min y z) ≡ min (min x y) z
 min_assoc x y z = omega arith
@@ -34,19 +46,23 @@ min_assoc x y z = omega arith
 min-swap : (x y : ℕ) → min x y ≡ min y x
 min-swap x y = omega arith
 
-lesser-assoc : (a b c : RecordOption) → lesser_of a (lesser_of b c) ≡ lesser_of (lesser_of a b) c
-lesser-assoc NoRecord b c = refl
-lesser-assoc (Record x) NoRecord c = refl
-lesser-assoc (Record x) (Record y) NoRecord = refl
-lesser-assoc (Record x) (Record y) (Record z) = ap Record (min_assoc x y z)
+lesser-assoc : (a b c : Option ℕ) → lesser_of a (lesser_of b c) ≡ lesser_of (lesser_of a b) c
+lesser-assoc None b c = refl
+lesser-assoc (Some x) None c = refl
+lesser-assoc (Some x) (Some y) None = refl
+lesser-assoc (Some x) (Some y) (Some z) = ap Some (min_assoc x y z)
 
-lesser-comm : (a b : RecordOption) → lesser_of a b ≡ lesser_of b a
-lesser-comm NoRecord b = sym (lesser-none b)
-lesser-comm (Record x) NoRecord = refl
-lesser-comm (Record x) (Record y) = ap Record (min-swap x y)
+lesser-comm : (a b : Option ℕ) → lesser_of a b ≡ lesser_of b a
+lesser-comm None b = sym (lesser-none b)
+lesser-comm (Some x) None = refl
+lesser-comm (Some x) (Some y) = ap Some (min-swap x y)
 
-lesser-swap : (a b c : RecordOption) → lesser_of a (lesser_of b c) ≡ lesser_of b (lesser_of a c)
-lesser-swap a b c = lesser-assoc a b c ∙ ap (λ (f : RecordOption). lesser_of f c) (lesser-comm a b) ∙ sym (lesser-assoc b a c)
+lesser-swap : (a b c : Option ℕ) → lesser_of a (lesser_of b c) ≡ lesser_of b (lesser_of a c)
+lesser-swap a b c = lesser-assoc a b c ∙ ap (λ (f : Option ℕ). lesser_of f c) (lesser-comm a b) ∙ sym (lesser-assoc b a c)
+
+fold-lesser : (x : ℕ) (xs : List ℕ) → Some (fold min x xs) ≡ lesser_of (Some x) (reduce min xs)
+fold-lesser x [] = refl
+fold-lesser x (y ∷ ys) = fold-lesser (min x y) ys ∙ sym (lesser-assoc (Some x) (Some y) (reduce min ys)) ∙ ap (lesser_of (Some x)) (sym (fold-lesser y ys))
 
 -- ---- by rising value
 
@@ -121,53 +137,56 @@ rising-sorted (x ∷ xs) = insert-rising x (rising xs) (rising-sorted xs)
 -- ---- the least id at which a test does not accept
 
 module _ (test : ℕ → Verdict) where
-  -- f is what the element gives, r the least with it
-  pub least_step : (h : List ℕ) (i : ℕ) (best f r : RecordOption) → i < length h → f ≡ faulty_id test (get_or h i 0) → r ≡ lesser_of best f
-      → lesser_of best (least_faulty test (drop i h)) ≡ lesser_of r (least_faulty test (drop (i + 1) h))
+  -- the least of a list, and of what is left of it
+  least-more : (x : ℕ) (xs : List ℕ) → least_faulty test (x ∷ xs) ≡ lesser_of (faulty_id test x) (least_faulty test xs)
   unfolding least_faulty
-  least_step h i best f r p e q =
-      ap (lesser_of best) (at-step (least_faulty test) h i 0 p)
-      ∙ lesser-assoc best (faulty_id test (get_or h i 0)) (least_faulty test (drop (i + 1) h))
-      ∙ simp (q, e)
+  least-more x xs = step (is_err (test x))
+    where
+      step : (b : Bool) → reduce min (cond b (x ∷ filter (λ x. is_err (test x)) xs) (filter (λ x. is_err (test x)) xs)) ≡ lesser_of (cond b (Some x) None) (reduce min (filter (λ x. is_err (test x)) xs))
+      step true = fold-lesser x (filter (λ x. is_err (test x)) xs)
+      step false = refl
 
-  below_one : (x y : ℕ) (b : Bool) → x ≤ y → lesser_of (Record x) (cond b NoRecord (Record y)) ≡ Record x
-  below_one x y true h = refl
-  below_one x y false h = ap Record (min-eq_left h)
+  least-none : least_faulty test [] ≡ None
+  unfolding least_faulty
+  least-none = refl
 
-  below-least : (x : ℕ) (s : List ℕ) → AtLeast x s → lesser_of (Record x) (least_faulty test s) ≡ Record x
-  unfolding least_faulty faulty_id
-  below-least x [] g = refl
+  below_one : (x y : ℕ) (b : Bool) → x ≤ y → lesser_of (Some x) (cond b (Some y) None) ≡ Some x
+  below_one x y true h = ap Some (min-eq_left h)
+  below_one x y false h = refl
+
+  below-least : (x : ℕ) (s : List ℕ) → AtLeast x s → lesser_of (Some x) (least_faulty test s) ≡ Some x
+  below-least x [] g = ap (lesser_of (Some x)) least-none
   below-least x (y ∷ ys) g =
-      lesser-assoc (Record x) (faulty_id test y) (least_faulty test ys)
-      ∙ ap (λ (f : RecordOption). lesser_of f (least_faulty test ys)) (below_one x y (accepts (test y)) (g y (Memᴰ.head refl)))
+      ap (lesser_of (Some x)) (least-more y ys)
+      ∙ lesser-assoc (Some x) (faulty_id test y) (least_faulty test ys)
+      ∙ ap (λ (f : Option ℕ). lesser_of f (least_faulty test ys)) (below_one x y (is_err (test y)) (g y (Memᴰ.head refl)))
       ∙ below-least x ys (λ z m. g z (Memᴰ.tail m))
 
   -- on a rising list the least is the first
   first-least : (s : List ℕ) → Rising s → first_breach (map test s) ≡ verdict_at test (least_faulty test s)
-  unfolding first_breach least_faulty faulty_id
-  first-least [] g = refl
-  first-least (x ∷ xs) g = step (first-least xs g.1) (accepts (test x))
+  unfolding first_breach
+  first-least [] g = ap (verdict_at test) (sym least-none)
+  first-least (x ∷ xs) g = step (first-least xs g.1) (test x) refl ∙ ap (verdict_at test) (sym (least-more x xs))
     where
-      step : first_breach (map test xs) ≡ verdict_at test (least_faulty test xs) → (b : Bool)
-          → cond b (first_breach (map test xs)) (test x) ≡ verdict_at test (lesser_of (cond b NoRecord (Record x)) (least_faulty test xs))
-      step r true = r
-      step r false = ap (verdict_at test) (sym (below-least x xs g.0))
+      step : first_breach (map test xs) ≡ verdict_at test (least_faulty test xs) → (v : Verdict) → test x ≡ v → first_breach (v ∷ map test xs) ≡ verdict_at test (lesser_of (cond (is_err v) (Some x) None) (least_faulty test xs))
+      step r (Ok u) e = r
+      step r (Err b) e = sym e ∙ ap (verdict_at test) (sym (below-least x xs g.0))
 
   -- and order does not change the least
   least-insert : (x : ℕ) (s : List ℕ) → least_faulty test (insert x s) ≡ lesser_of (faulty_id test x) (least_faulty test s)
-  unfolding insert least_faulty
-  least-insert x [] = refl
-  least-insert x (y ∷ ys) = step (least-insert x ys) (leb x y)
+  unfolding insert
+  least-insert x [] = least-more x []
+  least-insert x (y ∷ ys) = step (least-insert x ys) (leb x y) ∙ ap (lesser_of (faulty_id test x)) (sym (least-more y ys))
     where
       step : least_faulty test (insert x ys) ≡ lesser_of (faulty_id test x) (least_faulty test ys) → (b : Bool)
           → least_faulty test (cond b (x ∷ y ∷ ys) (y ∷ insert x ys)) ≡ lesser_of (faulty_id test x) (lesser_of (faulty_id test y) (least_faulty test ys))
-      step r true = refl
-      step r false = ap (lesser_of (faulty_id test y)) r ∙ lesser-swap (faulty_id test y) (faulty_id test x) (least_faulty test ys)
+      step r true = least-more x (y ∷ ys) ∙ ap (lesser_of (faulty_id test x)) (least-more y ys)
+      step r false = least-more y (insert x ys) ∙ ap (lesser_of (faulty_id test y)) r ∙ lesser-swap (faulty_id test y) (faulty_id test x) (least_faulty test ys)
 
   least-rising : (s : List ℕ) → least_faulty test (rising s) ≡ least_faulty test s
-  unfolding rising least_faulty
+  unfolding rising
   least-rising [] = refl
-  least-rising (x ∷ xs) = least-insert x (rising xs) ∙ ap (lesser_of (faulty_id test x)) (least-rising xs)
+  least-rising (x ∷ xs) = least-insert x (rising xs) ∙ ap (lesser_of (faulty_id test x)) (least-rising xs) ∙ sym (least-more x xs)
 
   pub least-is-first : (h : List ℕ) → first_breach (map test (rising h)) ≡ verdict_at test (least_faulty test h)
   least-is-first h = first-least (rising h) (rising-sorted h) ∙ ap (verdict_at test) (least-rising h)

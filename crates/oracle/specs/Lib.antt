@@ -2,3 +2,4 @@
 -- cite. What a verdict 0 means is in `oracle_legal`. Assumes nothing.
 pub mod Verdict
 pub mod Scans
+pub mod Nonzero

@@ -1,27 +1,20 @@
--- What the private scans of `src/` answer. No public contract cites these. Assumes nothing.
-use Rattle.std.specs.Prelude.{cond, List, [], ◌∷◌, ℕ, min}
-use Rattle.oracle.specs.Verdict.{accepts}
-use Rattle.oracle.specs.declared.RecordOption.{RecordOption}
-use Rattle.oracle.specs.declared.RecordOption.TheVariants.{NoRecord, Record}
-use Rattle.oracle.specs.declared.Verdict.{Verdict}
-use Rattle.oracle.specs.declared.Verdict.TheVariants.{Accepted}
+-- What the private scans of `src/` ask and answer. No public contract cites these. Assumes nothing.
+use Rattle.std.specs.Prelude.{◌≡◌, Option, filter, List, length, ℕ, min}
+use Rattle.std.specs.List.{reduce}
+use Rattle.std.specs.Result.{is_err}
+use Rattle.model.specs.Ledger.{Entry}
+use Rattle.model.specs.Columns.{ledger_of}
+use Rattle.model.specs.declared.LedgerRef.{LedgerRef}
+use Rattle.oracle.specs.Verdict.{Verdict}
 
--- the lesser of two ids, where there are any
-abbrev pub lesser_of : RecordOption → RecordOption → RecordOption
-lesser_of NoRecord b = b
-lesser_of (Record x) NoRecord = Record x
-lesser_of (Record x) (Record y) = Record (min x y)
+-- the ledger that lent columns hold
+abbrev pub held_by : LedgerRef → List Entry
+held_by l = ledger_of l.ids.now l.states.now l.torn.now
 
--- an id at which a test does not accept
-unfoldable pub faulty_id : (ℕ → Verdict) → ℕ → RecordOption
-faulty_id test x = cond (accepts (test x)) NoRecord (Record x)
+-- the columns are of one length, as those that hold a ledger are
+abbrev pub OneLength : LedgerRef → Type 0
+OneLength l = (length l.states.now ≡ length l.ids.now) × (length l.torn.now ≡ length l.ids.now)
 
 -- the least id of a list at which a test does not accept
-unfoldable pub least_faulty : (ℕ → Verdict) → List ℕ → RecordOption
-least_faulty test [] = NoRecord
-least_faulty test (x ∷ xs) = lesser_of (faulty_id test x) (least_faulty test xs)
-
--- what the test says at that id
-abbrev pub verdict_at : (ℕ → Verdict) → RecordOption → Verdict
-verdict_at test NoRecord = Accepted
-verdict_at test (Record x) = test x
+unfoldable pub least_faulty : (ℕ → Verdict) → List ℕ → Option ℕ
+least_faulty test xs = reduce min (filter (λ x. is_err (test x)) xs)

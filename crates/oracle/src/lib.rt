@@ -1,41 +1,28 @@
 // Whether a recovery is legal, after oracle.rs: the verdict on a ledger, a recovered history, the dispatched intents and a
 // bank count. The ledger is three lent columns, as in `model`. One verdict for every input, the first breach in the order of
-// the tests, with its values: each promise is an equation with a definition of specs/. What a verdict 0 means is a theorem
-// (`oracle_legal`). No set is at hand, so ids are sought by scans of the lent lists.
+// the tests, with its values: each promise is an equation with a definition of specs/. What it means to be accepted is a
+// theorem (`oracle_legal`). No set is at hand, so ids are sought by scans of the lent lists.
 #![tactic(auto)]
 
-ghost use Rattle.std.specs.Prelude.{◌≡◌, [], length};
+ghost use Rattle.std.specs.Prelude.{◌≡◌, [], None, length};
 ghost use Rattle.model.specs.Columns.{ledger_of};
 ghost use Rattle.model.specs.Scans.{ids_from};
 ghost use Rattle.oracle.specs.Verdict.{number_of, seen_before, fault_of, first_fault, differs, first_lost, banks_breach, verdict, verified};
-ghost use Rattle.oracle.specs.Scans.{lesser_of, faulty_id, least_faulty};
+ghost use Rattle.oracle.specs.Nonzero.{breach-nonzero};
+ghost use Rattle.oracle.specs.Scans.{OneLength, held_by, least_faulty};
 
-use id_columns::Place;
+use basics::Numbered;
+use model::{Durability, LedgerRef};
 
-// An id, or none.
-#[derive(Clone, Copy)]
-pub enum RecordOption {
-    NoRecord,
-    Record(u32),
-}
-
-// How many banks a reader would have booted from, if its caller has banks at all.
-#[derive(Clone, Copy)]
-pub enum Banks {
-    Absent,
-    Count(u64),
-}
-
-// The Rust's Ok and its breaches; and Refused, for columns that hold no ledger.
-#[derive(Clone, Copy)]
-pub enum Verdict {
-    Accepted,
+// What makes a recovery no legal one; and Refused, for columns that hold no ledger.
+#[derive(Clone, Copy, Debug, PartialEq, Eq)]
+pub enum Breach {
     // The run declared one record id twice, so no question about it has one answer.
     DuplicateRecordId(u32),
     // Recovery produced something other than a beginning of the committed history.
     NotAPrefix {
         position: usize,
-        expected: RecordOption,
+        expected: Option<u32>,
         found: u32,
     },
     // Recovery produced a record none of whose bytes ever reached media.
@@ -50,28 +37,31 @@ pub enum Verdict {
     NoAuthoritativeBank,
     // More than one bank is authoritative, so which history is the run's is not decided.
     AmbiguousAuthority(u64),
+    // The columns hold no ledger.
     Refused,
 }
 
-// Document 01's number of a verdict.
-pub fn number(of: Verdict) -> u8
-    ensures { result ≡ number_of of }
-{
-    match of {
-        Verdict::Accepted => 0,
-        Verdict::DuplicateRecordId(_) => 31,
-        Verdict::NotAPrefix {
-            position: _,
-            expected: _,
-            found: _,
-        } => 32,
-        Verdict::RecoveredWhatWasNeverAttempted(_) => 33,
-        Verdict::RecoveredATornRecord(_) => 34,
-        Verdict::LostAnAcknowledgedRecord(_) => 35,
-        Verdict::DispatchedWithoutADurableIntent(_) => 36,
-        Verdict::NoAuthoritativeBank => 37,
-        Verdict::AmbiguousAuthority(_) => 38,
-        Verdict::Refused => 12,
+// Ok where the recovery is a legal one.
+pub type Verdict = Result<(), Breach>;
+
+impl Numbered for Breach {
+    ghost number = { number_of };
+
+    ghost nonzero = { breach-nonzero };
+
+    // Document 01's number of a breach.
+    fn number(self) -> u32 {
+        match self {
+            Breach::DuplicateRecordId(_) => 31,
+            Breach::NotAPrefix { .. } => 32,
+            Breach::RecoveredWhatWasNeverAttempted(_) => 33,
+            Breach::RecoveredATornRecord(_) => 34,
+            Breach::LostAnAcknowledgedRecord(_) => 35,
+            Breach::DispatchedWithoutADurableIntent(_) => 36,
+            Breach::NoAuthoritativeBank => 37,
+            Breach::AmbiguousAuthority(_) => 38,
+            Breach::Refused => 12,
+        }
     }
 }
 
@@ -79,237 +69,152 @@ pub fn number(of: Verdict) -> u8
 fn first_repeat(ids: &[u32]) -> Verdict
     ensures { result ≡ seen_before [] ids.now }
 {
-    let mut i = 0;
-    while i < ids.len() {
-        let id = ids[i];
-        if id_columns::contains(&ids[..i], id) {
-            return Verdict::DuplicateRecordId(id);
+    for (place, id) in ids.iter().enumerate() {
+        if id_columns::contains(&ids[..place], *id) {
+            return Err(Breach::DuplicateRecordId(*id));
         }
-        i += 1;
     }
-    Verdict::Accepted
+    Ok(())
 }
 
 // 33 if the id's first entry is attempted, else 34 if it is torn.
-fn fault_of(ids: &[u32], states: &[u8], torn: &[u8], id: u32) -> Verdict
-    requires { (length states.now ≡ length ids.now) × (length torn.now ≡ length ids.now) }
-    ensures { result ≡ fault_of (ledger_of ids.now states.now torn.now) id }
+fn fault_of(ledger: &LedgerRef<'_>, id: u32) -> Verdict
+    requires { OneLength ledger.now }
+    ensures { result ≡ fault_of (held_by ledger.now) id }
 {
-    let place = id_columns::first_place(ids, id);
-    match place {
-        Place::NoPlace => Verdict::Accepted,
-        Place::PlaceIs(i) => {
-            if states[i] == 0 {
-                return Verdict::RecoveredWhatWasNeverAttempted(id);
-            }
-            if torn[i] == 1 {
-                return Verdict::RecoveredATornRecord(id);
-            }
-            Verdict::Accepted
-        }
+    let Some(row) = id_columns::first_place(ledger.ids, id) else {
+        return Ok(());
+    };
+    if ledger.states[row] == Durability::Attempted as u8 {
+        return Err(Breach::RecoveredWhatWasNeverAttempted(id));
     }
-}
-
-// The id, if it has such a fault.
-fn faulty_id(ids: &[u32], states: &[u8], torn: &[u8], id: u32) -> RecordOption
-    requires { (length states.now ≡ length ids.now) × (length torn.now ≡ length ids.now) }
-    ensures { result ≡ faulty_id (fault_of (ledger_of ids.now states.now torn.now)) id }
-{
-    let fault = fault_of(ids, states, torn, id);
-    if number(fault) == 0 {
-        RecordOption::NoRecord
-    } else {
-        RecordOption::Record(id)
+    if ledger.torn[row] == 1 {
+        return Err(Breach::RecoveredATornRecord(id));
     }
-}
-
-fn lesser_of(a: RecordOption, b: RecordOption) -> RecordOption
-    ensures { result ≡ lesser_of a b }
-{
-    match a {
-        RecordOption::NoRecord => b,
-        RecordOption::Record(x) => match b {
-            RecordOption::NoRecord => a,
-            RecordOption::Record(y) => { if x <= y { a } else { b } }
-        },
-    }
+    Ok(())
 }
 
 // The least recovered id with a fault: the one that is met first by rising value.
-fn least_faulty(ids: &[u32], states: &[u8], torn: &[u8], history: &[u32]) -> RecordOption
-    requires { (length states.now ≡ length ids.now) × (length torn.now ≡ length ids.now) }
-    ensures { result ≡ least_faulty (fault_of (ledger_of ids.now states.now torn.now)) history.now }
+fn least_faulty(ledger: &LedgerRef<'_>, history: &[u32]) -> Option<u32>
+    requires { OneLength ledger.now }
+    ensures { result ≡ least_faulty (fault_of (held_by ledger.now)) history.now }
 {
-    let mut least = RecordOption::NoRecord;
-    let mut i = 0;
-    while i < history.len() {
-        let met = faulty_id(ids, states, torn, history[i]);
-        least = lesser_of(least, met);
-        i += 1;
-    }
-    least
+    history
+        .iter()
+        .copied()
+        .filter(|id| fault_of(ledger, *id).is_err())
+        .min()
 }
 
 // 33 and 34, over recovered ids by rising value.
-fn first_fault(ids: &[u32], states: &[u8], torn: &[u8], history: &[u32]) -> Verdict
-    requires { (length states.now ≡ length ids.now) × (length torn.now ≡ length ids.now) }
-    ensures { result ≡ first_fault (ledger_of ids.now states.now torn.now) history.now }
+fn first_fault(ledger: &LedgerRef<'_>, history: &[u32]) -> Verdict
+    requires { OneLength ledger.now }
+    ensures { result ≡ first_fault (held_by ledger.now) history.now }
 {
-    let least = least_faulty(ids, states, torn, history);
-    match least {
-        RecordOption::NoRecord => Verdict::Accepted,
-        RecordOption::Record(id) => fault_of(ids, states, torn, id),
+    match least_faulty(ledger, history) {
+        None => Ok(()),
+        Some(id) => fault_of(ledger, id),
     }
 }
 
 // 32: the first history position whose committed id differs or is missing.
-fn first_difference(ids: &[u32], states: &[u8], history: &[u32]) -> Verdict
-    requires { length states.now ≡ length ids.now }
-    ensures { result ≡ differs 0 (ids_from 1 ids.now states.now) history.now }
+fn first_difference(ledger: &LedgerRef<'_>, history: &[u32]) -> Verdict
+    ensures { result ≡ differs 0 (ids_from 1 ledger.now.ids.now ledger.now.states.now) history.now }
 {
-    let mut position = 0;
-    let mut i = 0;
-    while i < ids.len() {
-        if states[i] == 0 {
-            i += 1;
-        } else {
-            if position == history.len() {
-                return Verdict::Accepted;
-            }
-            if ids[i] != history[position] {
-                return Verdict::NotAPrefix {
-                    position,
-                    expected: RecordOption::Record(ids[i]),
-                    found: history[position],
-                };
-            }
-            position += 1;
-            i += 1;
+    let mut committed = ledger
+        .ids
+        .iter()
+        .zip(ledger.states)
+        .filter(|(_, state)| **state != Durability::Attempted as u8)
+        .map(|(id, _)| *id);
+    for (position, found) in history.iter().enumerate() {
+        let expected = committed.next();
+        if expected != Some(*found) {
+            return Err(Breach::NotAPrefix {
+                position,
+                expected,
+                found: *found,
+            });
         }
     }
-    if position < history.len() {
-        return Verdict::NotAPrefix {
-            position,
-            expected: RecordOption::NoRecord,
-            found: history[position],
-        };
-    }
-    Verdict::Accepted
+    Ok(())
 }
 
 // 35: the first acknowledged id not recovered.
-fn first_lost(ids: &[u32], states: &[u8], history: &[u32]) -> Verdict
-    requires { length states.now ≡ length ids.now }
-    ensures { result ≡ first_lost Verdict.LostAnAcknowledgedRecord history.now (ids_from 2 ids.now states.now) }
+fn first_lost(ledger: &LedgerRef<'_>, history: &[u32]) -> Verdict
+    ensures { result ≡ first_lost Breach.LostAnAcknowledgedRecord history.now (ids_from 2 ledger.now.ids.now ledger.now.states.now) }
 {
-    let mut i = 0;
-    while i < ids.len() {
-        if states[i] < 2 {
-            i += 1;
-        } else {
-            let id = ids[i];
-            if id_columns::contains(history, id) {
-                i += 1;
-            } else {
-                return Verdict::LostAnAcknowledgedRecord(id);
-            }
+    for (id, state) in ledger.ids.iter().zip(ledger.states) {
+        if *state >= Durability::Acknowledged as u8 && !id_columns::contains(history, *id) {
+            return Err(Breach::LostAnAcknowledgedRecord(*id));
         }
     }
-    Verdict::Accepted
+    Ok(())
 }
 
-// 36: the first dispatched id not recovered.
+// 36: the first dispatched id not recovered. The loop of 35 goes over two columns and this one over a list: one function for
+// both would take an iterator and a breach, and be no shorter.
 fn first_unaccounted(dispatched: &[u32], history: &[u32]) -> Verdict
-    ensures { result ≡ first_lost Verdict.DispatchedWithoutADurableIntent history.now dispatched.now }
+    ensures { result ≡ first_lost Breach.DispatchedWithoutADurableIntent history.now dispatched.now }
 {
-    let mut i = 0;
-    while i < dispatched.len() {
-        let intent = dispatched[i];
-        if id_columns::contains(history, intent) {
-            i += 1;
-        } else {
-            return Verdict::DispatchedWithoutADurableIntent(intent);
+    for intent in dispatched {
+        if !id_columns::contains(history, *intent) {
+            return Err(Breach::DispatchedWithoutADurableIntent(*intent));
         }
     }
-    Verdict::Accepted
+    Ok(())
 }
 
 // 37 for bank count 0, 38 with the count for 2 or more.
-fn bank_breach(banks: Banks) -> Verdict
+fn bank_breach(banks: Option<u64>) -> Verdict
     ensures { result ≡ banks_breach banks }
 {
     match banks {
-        Banks::Absent => Verdict::Accepted,
-        Banks::Count(count) => {
-            if count == 0 {
-                Verdict::NoAuthoritativeBank
-            } else if count == 1 {
-                Verdict::Accepted
-            } else {
-                Verdict::AmbiguousAuthority(count)
-            }
-        }
+        None | Some(1) => Ok(()),
+        Some(0) => Err(Breach::NoAuthoritativeBank),
+        Some(count) => Err(Breach::AmbiguousAuthority(count)),
     }
 }
 
 // The verdict on columns that hold a ledger.
 fn judged(
-    ids: &[u32],
-    states: &[u8],
-    torn: &[u8],
+    ledger: &LedgerRef<'_>,
     history: &[u32],
     dispatched: &[u32],
-    banks: Banks,
+    banks: Option<u64>,
 ) -> Verdict
-    requires { (length states.now ≡ length ids.now) × (length torn.now ≡ length ids.now) }
-    ensures { result ≡ verdict (ledger_of ids.now states.now torn.now) history.now dispatched.now banks }
+    requires { OneLength ledger.now }
+    ensures { result ≡ verdict (held_by ledger.now) history.now dispatched.now banks }
 {
-    let repeat = first_repeat(ids);
-    if number(repeat) != 0 {
-        return repeat;
-    }
+    first_repeat(ledger.ids)?;
     // Before the prefix, because "recovery produced a record that never reached media" is a diagnosis and "position 1
     // disagrees" is a symptom of it.
-    let fault = first_fault(ids, states, torn, history);
-    if number(fault) != 0 {
-        return fault;
-    }
-    let difference = first_difference(ids, states, history);
-    if number(difference) != 0 {
-        return difference;
-    }
-    let lost = first_lost(ids, states, history);
-    if number(lost) != 0 {
-        return lost;
-    }
-    let unaccounted = first_unaccounted(dispatched, history);
-    if number(unaccounted) != 0 {
-        return unaccounted;
-    }
+    first_fault(ledger, history)?;
+    first_difference(ledger, history)?;
+    first_lost(ledger, history)?;
+    first_unaccounted(dispatched, history)?;
     bank_breach(banks)
 }
 
 // Whether a recovery is a legal one of the run that the ledger describes: the first breach in document 01's order, with its
 // values. The bank count comes last on purpose: what was lost is the more specific diagnosis.
 pub fn verify_oracle(
-    ids: &[u32],
-    states: &[u8],
-    torn: &[u8],
+    ledger: &LedgerRef<'_>,
     history: &[u32],
     dispatched: &[u32],
-    banks: Banks,
+    banks: Option<u64>,
 ) -> Verdict
-    ensures { result ≡ verified ids.now states.now torn.now history.now dispatched.now banks }
+    ensures { result ≡ verified ledger.now.ids.now ledger.now.states.now ledger.now.torn.now history.now dispatched.now banks }
 {
-    if model::refusal(ids, states, torn) != 0 {
-        return Verdict::Refused;
+    if ledger.refusal().is_err() {
+        return Err(Breach::Refused);
     }
-    judged(ids, states, torn, history, dispatched, banks)
+    judged(ledger, history, dispatched, banks)
 }
 
 // The same for a recovery that claims nothing about banks or dispatched effects.
-pub fn verify_recovery(ids: &[u32], states: &[u8], torn: &[u8], history: &[u32]) -> Verdict
-    ensures { result ≡ verified ids.now states.now torn.now history.now [] Banks.Absent }
+pub fn verify_recovery(ledger: &LedgerRef<'_>, history: &[u32]) -> Verdict
+    ensures { result ≡ verified ledger.now.ids.now ledger.now.states.now ledger.now.torn.now history.now [] None }
 {
-    verify_oracle(ids, states, torn, history, &ids[..0], Banks::Absent)
+    verify_oracle(ledger, history, &[], None)
 }

@@ -5,16 +5,17 @@
 // The tables and the order of the cases are those of `sample` in tests/differential/src/oracle.rs.
 #![tactic(auto)]
 
-ghost use Rattle.std.specs.Prelude.{◌<◌, ◌≤◌};
+ghost use Rattle.std.specs.Prelude.{◌+◌, ◌*◌, ◌<◌, ◌≤◌};
 
-use first_entries::{StateAnswer, TornAnswer};
-use model::{Durability, ListAnswer};
-use oracle::{Banks, RecordOption, Verdict};
+use basics::Numbered;
+use model::LedgerRef;
+use oracle::{Breach, Verdict};
+use refusals::Refusal;
 use std::io;
 
 const RECORDS: [u32; 3] = [5, 6, 9];
 
-const COUNTS: [u64; 5] = [0, 0, 1, 2, 18446744073709551615];
+const COUNTS: [Option<u64>; 5] = [None, Some(0), Some(1), Some(2), Some(18446744073709551615)];
 
 // A list of up to two numbers.
 #[derive(Clone, Copy)]
@@ -24,84 +25,53 @@ struct Pair {
     second: usize,
 }
 
-// The list at a place among all of up to two numbers below 12, the shorter ones first: an entry is one of 12.
-fn entries_at(place: usize) -> Pair
+// The list at a place among all of up to two numbers below `top`, the shorter ones first.
+fn list_at(place: usize, top: usize) -> Pair
+    requires { (0 < top) × (place < 1 + top + top * top) }
+    ensures { (result.many ≤ 2) × (result.first < top) × (result.second < top) }
+{
+    if place == 0 {
+        return Pair {
+            many: 0,
+            first: 0,
+            second: 0,
+        };
+    }
+    if place <= top {
+        return Pair {
+            many: 1,
+            first: place - 1,
+            second: 0,
+        };
+    }
+    Pair {
+        many: 2,
+        first: (place - 1 - top) / top,
+        second: (place - 1 - top) % top,
+    }
+}
+
+// A ledger of up to two entries, in columns of its own.
+#[derive(Clone, Copy)]
+struct Ledger {
+    many: usize,
+    ids: [u32; 2],
+    states: [u8; 2],
+    torn: [u8; 2],
+}
+
+// The ledger at a place: an entry is one of 12, by its id, its state and its torn code.
+fn ledger_at(place: usize) -> Ledger
     requires { place < 157 }
-    ensures { (result.many ≤ 2) × (result.first < 12) × (result.second < 12) }
+    ensures { result.many ≤ 2 }
 {
-    if place == 0 {
-        return Pair {
-            many: 0,
-            first: 0,
-            second: 0,
-        };
-    }
-    if place < 13 {
-        return Pair {
-            many: 1,
-            first: place - 1,
-            second: 0,
-        };
-    }
-    Pair {
-        many: 2,
-        first: (place - 13) / 12,
-        second: (place - 13) % 12,
-    }
-}
-
-// The same of numbers below 3: a recovered id is one of three.
-fn records_at(place: usize) -> Pair
-    requires { place < 13 }
-    ensures { (result.many ≤ 2) × (result.first < 3) × (result.second < 3) }
-{
-    if place == 0 {
-        return Pair {
-            many: 0,
-            first: 0,
-            second: 0,
-        };
-    }
-    if place < 4 {
-        return Pair {
-            many: 1,
-            first: place - 1,
-            second: 0,
-        };
-    }
-    Pair {
-        many: 2,
-        first: (place - 4) / 3,
-        second: (place - 4) % 3,
-    }
-}
-
-// The id, the state and the torn code of an entry.
-fn id_of(entry: usize) -> u32
-    requires { entry < 12 }
-{
-    (entry / 6) as u32 + 5
-}
-
-fn state_of(entry: usize) -> u8
-    requires { entry < 12 }
-{
-    (entry / 2 % 3) as u8
-}
-
-fn torn_of(entry: usize) -> u8
-    requires { entry < 12 }
-{
-    (entry % 2) as u8
-}
-
-fn banks_of(place: usize) -> Banks
-    requires { place < 5 }
-{
-    if place == 0 {
-        Banks::Absent
-    } else {
-        Banks::Count(COUNTS[place])
+    let entries = list_at(place, 12);
+    let both = [entries.first, entries.second];
+    Ledger {
+        many: entries.many,
+        ids: both.map(|entry| (entry / 6 % 2) as u32 + 5),
+        states: both.map(|entry| (entry / 2 % 3) as u8),
+        torn: both.map(|entry| (entry % 2) as u8),
     }
 }
 
@@ -109,233 +79,162 @@ fn print(rt: &impl Print, n: u64) -> io::Result<()> {
     print!(rt; " {n}")
 }
 
-fn print_id(rt: &impl Print, id: u32) -> io::Result<()> {
-    print(rt, id as u64)
+fn print_or_none(rt: &impl Print, n: Option<u64>) -> io::Result<()> {
+    match n {
+        None => rt.write_all(b" -"),
+        Some(n) => print(rt, n),
+    }
 }
 
-fn print_code(rt: &impl Print, code: u8) -> io::Result<()> {
-    print(rt, code as u64)
-}
-
-fn print_none(rt: &impl Print) -> io::Result<()> {
-    rt.write_all(b" -")
-}
-
-// The first ids of a column, `many` of them.
-fn print_ids(rt: &impl Print, column: &[u32], many: usize) -> io::Result<()> {
-    let mut i = 0;
-    while i < column.len() {
-        if i < many {
-            print_id(rt, column[i])?;
-        }
-        i += 1;
+fn print_all<T: Copy + Into<u64>>(rt: &impl Print, column: &[T]) -> io::Result<()> {
+    for cell in column {
+        print(rt, (*cell).into())?;
     }
     Ok(())
 }
 
-fn print_codes(rt: &impl Print, column: &[u8]) -> io::Result<()> {
-    let mut i = 0;
-    while i < column.len() {
-        print_code(rt, column[i])?;
-        i += 1;
+// What is answered, or the number that refuses it.
+fn print_answer(rt: &impl Print, of: Result<Option<u64>, Refusal>) -> io::Result<()> {
+    match of {
+        Err(refusal) => print(rt, u64::from(refusal.number())),
+        Ok(n) => print_or_none(rt, n),
     }
-    Ok(())
 }
 
-fn print_columns(rt: &impl Print, ids: &[u32], states: &[u8], torn: &[u8]) -> io::Result<()> {
+fn print_columns(rt: &impl Print, ledger: &LedgerRef<'_>) -> io::Result<()> {
     rt.write_all(b"I")?;
-    print_ids(rt, ids, ids.len())?;
+    print_all(rt, ledger.ids)?;
     rt.write_all(b" S")?;
-    print_codes(rt, states)?;
+    print_all(rt, ledger.states)?;
     rt.write_all(b" T")?;
-    print_codes(rt, torn)
+    print_all(rt, ledger.torn)
 }
 
-fn print_count(rt: &impl Print, of: ListAnswer) -> io::Result<()> {
+// As many ids of a column as are answered, or the number that refuses them.
+fn print_ids(rt: &impl Print, of: Result<usize, Refusal>, column: &[u32]) -> io::Result<()> {
     match of {
-        ListAnswer::ListRefused(number) => print_code(rt, number),
-        ListAnswer::ListIs(count) => print(rt, count as u64),
-    }
-}
-
-fn print_column(rt: &impl Print, of: ListAnswer, column: &[u32]) -> io::Result<()> {
-    match of {
-        ListAnswer::ListRefused(number) => print_code(rt, number),
-        ListAnswer::ListIs(count) => print_ids(rt, column, count),
-    }
-}
-
-fn print_durability(rt: &impl Print, of: Durability) -> io::Result<()> {
-    match of {
-        Durability::Attempted => print(rt, 0),
-        Durability::PossiblyDurable => print(rt, 1),
-        Durability::Acknowledged => print(rt, 2),
-    }
-}
-
-fn print_state(rt: &impl Print, of: StateAnswer) -> io::Result<()> {
-    match of {
-        StateAnswer::StateRefused(number) => print_code(rt, number),
-        StateAnswer::NoState => print_none(rt),
-        StateAnswer::StateIs(state) => print_durability(rt, state),
-    }
-}
-
-fn print_torn(rt: &impl Print, of: TornAnswer) -> io::Result<()> {
-    match of {
-        TornAnswer::TornRefused(number) => print_code(rt, number),
-        TornAnswer::NoTorn => print_none(rt),
-        TornAnswer::TornIs(torn) => { if torn { print(rt, 1) } else { print(rt, 0) } }
+        Err(refusal) => print_answer(rt, Err(refusal)),
+        Ok(count) => print_all(rt, &column[..count.min(column.len())]),
     }
 }
 
 // Document 01's number of a verdict, and its values.
 fn print_verdict(rt: &impl Print, of: Verdict) -> io::Result<()> {
-    print_code(rt, oracle::number(of))?;
-    match of {
-        Verdict::Accepted => Ok(()),
-        Verdict::DuplicateRecordId(id) => print_id(rt, id),
-        Verdict::NotAPrefix {
+    print(rt, u64::from(basics::number_in(of)))?;
+    let Err(breach) = of else {
+        return Ok(());
+    };
+    match breach {
+        Breach::DuplicateRecordId(id)
+        | Breach::RecoveredWhatWasNeverAttempted(id)
+        | Breach::RecoveredATornRecord(id)
+        | Breach::LostAnAcknowledgedRecord(id)
+        | Breach::DispatchedWithoutADurableIntent(id) => print(rt, u64::from(id)),
+        Breach::NotAPrefix {
             position,
             expected,
             found,
         } => {
             print(rt, position as u64)?;
-            print_record(rt, expected)?;
-            print_id(rt, found)
+            print_or_none(rt, expected.map(u64::from))?;
+            print(rt, u64::from(found))
         }
-        Verdict::RecoveredWhatWasNeverAttempted(id) => print_id(rt, id),
-        Verdict::RecoveredATornRecord(id) => print_id(rt, id),
-        Verdict::LostAnAcknowledgedRecord(id) => print_id(rt, id),
-        Verdict::DispatchedWithoutADurableIntent(id) => print_id(rt, id),
-        Verdict::NoAuthoritativeBank => Ok(()),
-        Verdict::AmbiguousAuthority(count) => print(rt, count),
-        Verdict::Refused => Ok(()),
-    }
-}
-
-fn print_record(rt: &impl Print, of: RecordOption) -> io::Result<()> {
-    match of {
-        RecordOption::NoRecord => print_none(rt),
-        RecordOption::Record(id) => print_id(rt, id),
-    }
-}
-
-fn print_banks(rt: &impl Print, of: Banks) -> io::Result<()> {
-    match of {
-        Banks::Absent => print_none(rt),
-        Banks::Count(count) => print(rt, count),
+        Breach::AmbiguousAuthority(count) => print(rt, count),
+        Breach::NoAuthoritativeBank | Breach::Refused => Ok(()),
     }
 }
 
 // What a ledger answers about a record.
-fn record_case(
-    rt: &impl Print,
-    ids: &[u32],
-    states: &[u8],
-    torn: &[u8],
-    id: u32,
-) -> io::Result<()> {
+fn record_case(rt: &impl Print, ledger: &LedgerRef<'_>, id: u32) -> io::Result<()> {
     rt.write_all(b" R")?;
-    print_state(rt, first_entries::state(ids, states, torn, id))?;
-    print_torn(rt, first_entries::torn(ids, states, torn, id))
+    let state = first_entries::state(ledger, id);
+    print_answer(rt, state.map(|found| found.map(|state| state as u64)))?;
+    let torn = first_entries::torn(ledger, id);
+    print_answer(rt, torn.map(|found| found.map(u64::from)))
 }
 
 // A ledger: N entries, its committed (C) and acknowledged (A) ids, and state and torn of each record (R).
-fn ledger_line(rt: &impl Print, ids: &[u32], states: &[u8], torn: &[u8]) -> io::Result<()> {
-    print_columns(rt, ids, states, torn)?;
+fn ledger_line(rt: &impl Print, ledger: &LedgerRef<'_>) -> io::Result<()> {
+    print_columns(rt, ledger)?;
     rt.write_all(b" N")?;
-    print_count(rt, model::len(ids, states, torn))?;
+    print_answer(rt, ledger.len().map(|count| Some(count as u64)))?;
     let mut column = [0u32; 2];
     rt.write_all(b" C")?;
-    let committed = ids_by_state::committed(ids, states, torn, &mut column);
-    print_column(rt, committed, &column)?;
+    let committed = ids_by_state::committed(ledger, &mut column);
+    print_ids(rt, committed, &column)?;
     rt.write_all(b" A")?;
-    let acknowledged = ids_by_state::acknowledged(ids, states, torn, &mut column);
-    print_column(rt, acknowledged, &column)?;
-    record_case(rt, ids, states, torn, RECORDS[0])?;
-    record_case(rt, ids, states, torn, RECORDS[1])?;
-    record_case(rt, ids, states, torn, RECORDS[2])?;
+    let acknowledged = ids_by_state::acknowledged(ledger, &mut column);
+    print_ids(rt, acknowledged, &column)?;
+    for id in RECORDS {
+        record_case(rt, ledger, id)?;
+    }
     rt.write_all(b"\n")
 }
 
 // A ledger, a history (H), dispatched ids (D), a bank count (B), and the verdict (V).
 fn verdict_line(
     rt: &impl Print,
-    ids: &[u32],
-    states: &[u8],
-    torn: &[u8],
+    ledger: &LedgerRef<'_>,
     history: &[u32],
     dispatched: &[u32],
-    banks: Banks,
+    banks: Option<u64>,
 ) -> io::Result<()> {
-    print_columns(rt, ids, states, torn)?;
+    print_columns(rt, ledger)?;
     rt.write_all(b" H")?;
-    print_ids(rt, history, history.len())?;
+    print_all(rt, history)?;
     rt.write_all(b" D")?;
-    print_ids(rt, dispatched, dispatched.len())?;
+    print_all(rt, dispatched)?;
     rt.write_all(b" B")?;
-    print_banks(rt, banks)?;
+    print_or_none(rt, banks)?;
     rt.write_all(b" V")?;
     print_verdict(
         rt,
-        oracle::verify_oracle(ids, states, torn, history, dispatched, banks),
+        oracle::verify_oracle(ledger, history, dispatched, banks),
     )?;
     rt.write_all(b"\n")
 }
 
 // Document 01's example: ledger ids 5, 5 with bank count 0.
 fn example(rt: &impl Print) -> io::Result<()> {
-    let ids = [5u32, 5];
-    let states = [2u8, 2];
-    let torn = [0u8, 0];
-    let history = [0u32; 1];
-    let dispatched = [0u32; 1];
-    verdict_line(
-        rt,
-        &ids,
-        &states,
-        &torn,
-        &history[..0],
-        &dispatched[..0],
-        Banks::Count(0),
-    )
+    let ledger = LedgerRef {
+        ids: &[5, 5],
+        states: &[2, 2],
+        torn: &[0, 0],
+    };
+    verdict_line(rt, &ledger, &[], &[], Some(0))
 }
 
 fn ledger_case(rt: &impl Print, place: usize) -> io::Result<()>
     requires { place < 157 }
 {
-    let entries = entries_at(place);
-    let many = entries.many;
-    let ids = [id_of(entries.first), id_of(entries.second)];
-    let states = [state_of(entries.first), state_of(entries.second)];
-    let torn = [torn_of(entries.first), torn_of(entries.second)];
-    ledger_line(rt, &ids[..many], &states[..many], &torn[..many])
+    let columns = ledger_at(place);
+    let many = columns.many;
+    let ledger = LedgerRef {
+        ids: &columns.ids[..many],
+        states: &columns.states[..many],
+        torn: &columns.torn[..many],
+    };
+    ledger_line(rt, &ledger)
 }
 
 fn verdict_case(rt: &impl Print, place: usize) -> io::Result<()>
     requires { place < 2041 }
 {
-    let entries = entries_at(place / 13);
-    let many = entries.many;
-    let ids = [id_of(entries.first), id_of(entries.second)];
-    let states = [state_of(entries.first), state_of(entries.second)];
-    let torn = [torn_of(entries.first), torn_of(entries.second)];
-    let records = records_at(place % 13);
-    let recovered = records.many;
-    let first = records.first;
-    let second = records.second;
-    let history = [RECORDS[first], RECORDS[second]];
-    let dispatched = place % 4;
-    let intents = RECORDS;
+    let columns = ledger_at(place / 13);
+    let many = columns.many;
+    let ledger = LedgerRef {
+        ids: &columns.ids[..many],
+        states: &columns.states[..many],
+        torn: &columns.torn[..many],
+    };
+    let records = list_at(place % 13, 3);
+    let history = [RECORDS[records.first], RECORDS[records.second]];
     verdict_line(
         rt,
-        &ids[..many],
-        &states[..many],
-        &torn[..many],
-        &history[..recovered],
-        &intents[..dispatched],
-        banks_of(place % 5),
+        &ledger,
+        &history[..records.many],
+        &RECORDS[..place % 4],
+        COUNTS[place % 5],
     )
 }
 

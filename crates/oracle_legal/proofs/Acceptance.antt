@@ -8,11 +8,9 @@
 use mathlib.Core.Path.{◌≡◌, refl, sym, ap, subst, ◌∙◌}
 use mathlib.Core.Logic.{◌⊎◌, inl, inr, ⊎_elim, ◌↔◌}
 use mathlib.Core.Bool.{Bool, true, false, cond, true≢false}
-use mathlib.Core.Option.{Option, none, some}
 use mathlib.Core.List.Memᴰ
 use mathlib.Core.List.{List, [], ◌∷◌, ◌++◌, Memᴰ}
 use Prim.Native.Nat.{ℕ}
-use native.Mathlib.Omega.{arith}
 use lib.Dec.{eqb}
 use borrow.Author.Tests.{eq-eqb, eqb-true, not-true}
 use Rattle.model.specs.Ledger.{Entry, is_attempted, is_committed, is_torn, ids, committed, acknowledged, torn, lookup, passes}
@@ -22,34 +20,28 @@ use Rattle.id_columns.proofs.Members.{known, not-both}
 use Rattle.model.proofs.Lookups.{looked-in, looked-only}
 use Rattle.model.proofs.Codes.{Sound, refused_none}
 use Rattle.model.proofs.Rows.{ids-are}
-use Rattle.oracle.specs.Verdict.{number_of, first_breach, seen_before, first_fault, differs, first_lost, banks_breach, verdict, verified}
+use Rattle.std.specs.Prelude.{Option, None, Some, Err}
+use Rattle.basics.specs.Replies.{number_in}
+use Rattle.oracle.specs.Verdict.{Verdict, Accepted, Banks, number_of, first_breach, seen_before, first_fault, differs, first_lost, banks_breach, verdict, verified}
 use Rattle.oracle_legal.specs.Legal.{Beginning, Legal}
 use Rattle.oracle_legal.specs.Acceptance.{Acceptance}
-use Rattle.oracle.specs.declared.Banks.{Banks}
-use Rattle.oracle.specs.declared.Verdict.{Verdict}
-use Rattle.oracle.specs.declared.Verdict.TheVariants.{Accepted, DuplicateRecordId, LostAnAcknowledgedRecord, DispatchedWithoutADurableIntent, Refused}
-use Rattle.oracle.proofs.Breaches.{number-0, number-12, number-zero, breach-past, breach-here, breach-none}
+use Rattle.oracle.specs.declared.Breach.TheVariants.{DuplicateRecordId, LostAnAcknowledgedRecord, DispatchedWithoutADurableIntent, Refused}
+use Rattle.oracle.proofs.Breaches.{number-zero, not-accepted, breach-past, breach-here, breach-none}
 use Rattle.oracle.proofs.Say.{from33, from32, from35, from36}
-use Rattle.oracle_legal.proofs.Accepting.{is-35, is-36, none_seen, seen_none, none-faulty, faulty-none, nowhere-beginning, beginning-nowhere, none-lost, lost-none, banks-pass, pass-banks}
+use Rattle.oracle_legal.proofs.Accepting.{none_seen, seen_none, none-faulty, faulty-none, nowhere-beginning, beginning-nowhere, none-lost, lost-none, banks-pass, pass-banks}
 
 not-attempted : (o : Option Entry) → passes is_committed o ≡ true → passes is_attempted o ≡ false
-not-attempted none e = absurd (true≢false (sym e))
-not-attempted (some e) t = not-true (is_attempted e) t
+not-attempted None e = absurd (true≢false (sym e))
+not-attempted (Some e) t = not-true (is_attempted e) t
 
-past : (v : Verdict) (vs : List Verdict) → v ≡ Accepted → first_breach (v ∷ vs) ≡ first_breach vs
-past v vs e = breach-past v vs (sym (number-0 v e))
-
-not-31 : ◌≡◌ {A = ℕ} 31 0 → ⊥
-not-31 e = omega arith
-
-seen-or-31 : (seen xs : List ℕ) → (seen_before seen xs ≡ Accepted) ⊎ (number_of (seen_before seen xs) ≡ 31)
-unfolding seen_before number_of
+seen-or-31 : (seen xs : List ℕ) → (seen_before seen xs ≡ Accepted) ⊎ ((x : ℕ) × (seen_before seen xs ≡ Err (DuplicateRecordId x)))
+unfolding seen_before
 seen-or-31 seen [] = inl refl
 seen-or-31 seen (x ∷ xs) = step (seen-or-31 (seen ++ (x ∷ [])) xs) (has seen x)
   where
-    step : (seen_before (seen ++ (x ∷ [])) xs ≡ Accepted) ⊎ (number_of (seen_before (seen ++ (x ∷ [])) xs) ≡ 31) → (b : Bool)
-        → (cond b (DuplicateRecordId x) (seen_before (seen ++ (x ∷ [])) xs) ≡ Accepted) ⊎ (number_of (cond b (DuplicateRecordId x) (seen_before (seen ++ (x ∷ [])) xs)) ≡ 31)
-    step r true = inr refl
+    step : {v : Verdict} → (v ≡ Accepted) ⊎ ((y : ℕ) × (v ≡ Err (DuplicateRecordId y))) → (b : Bool)
+        → (cond b (Err (DuplicateRecordId x)) v ≡ Accepted) ⊎ ((y : ℕ) × (cond b (Err (DuplicateRecordId x)) v ≡ Err (DuplicateRecordId y)))
+    step r true = inr (x, refl)
     step r false = r
 
 module _ (l : List Entry) (h d : List ℕ) (b : Banks) where
@@ -66,8 +58,8 @@ module _ (l : List Entry) (h d : List ℕ) (b : Banks) where
         distinct = distinct;
         beginning = nowhere-beginning 0 (committed l) h p32.0;
         untorn = λ x m t. not-both (looked-only is_torn x l distinct t) (none-faulty l h p33.0 x m).1;
-        kept = none-lost LostAnAcknowledgedRecord h is-35 (acknowledged l) p35.0;
-        accounted = none-lost DispatchedWithoutADurableIntent h is-36 d p36.0;
+        kept = none-lost LostAnAcknowledgedRecord h (acknowledged l) p35.0;
+        accounted = none-lost DispatchedWithoutADurableIntent h d p36.0;
         banks = banks-pass b (breach-none (banks_breach b) [] p36.1).0;
       }
 
@@ -85,34 +77,31 @@ module _ (l : List Entry) (h d : List ℕ) (b : Banks) where
   accepted-of : Legal l h d b → verdict l h d b ≡ Accepted
   unfolding verdict first_breach
   accepted-of g =
-      past (seen_before [] (ids l)) (from33 l h d b) (seen_none [] (ids l) g.distinct (λ x m s. Memᴰ.not-nil s))
-      ∙ past (first_fault l h) (from32 l h d b) (faulty-none l h (sound g))
-      ∙ past (differs 0 (committed l) h) (from35 l h d b) (beginning-nowhere 0 (committed l) h g.beginning)
-      ∙ past (first_lost LostAnAcknowledgedRecord h (acknowledged l)) (from36 l h d b) (lost-none LostAnAcknowledgedRecord h (acknowledged l) g.kept)
-      ∙ past (first_lost DispatchedWithoutADurableIntent h d) (banks_breach b ∷ []) (lost-none DispatchedWithoutADurableIntent h d g.accounted)
-      ∙ past (banks_breach b) [] (pass-banks b g.banks)
+      breach-past (seen_before [] (ids l)) (from33 l h d b) (seen_none [] (ids l) g.distinct (λ x m s. Memᴰ.not-nil s))
+      ∙ breach-past (first_fault l h) (from32 l h d b) (faulty-none l h (sound g))
+      ∙ breach-past (differs 0 (committed l) h) (from35 l h d b) (beginning-nowhere 0 (committed l) h g.beginning)
+      ∙ breach-past (first_lost LostAnAcknowledgedRecord h (acknowledged l)) (from36 l h d b) (lost-none LostAnAcknowledgedRecord h (acknowledged l) g.kept)
+      ∙ breach-past (first_lost DispatchedWithoutADurableIntent h d) (banks_breach b ∷ []) (lost-none DispatchedWithoutADurableIntent h d g.accounted)
+      ∙ breach-past (banks_breach b) [] (pass-banks b g.banks)
 
   pub accepts-exactly : (verdict l h d b ≡ Accepted) ↔ Legal l h d b
   accepts-exactly = (legal-of, accepted-of)
 
-  pub zero-exactly : (number_of (verdict l h d b) ≡ 0) ↔ Legal l h d b
-  zero-exactly = ((λ e. legal-of (number-zero (verdict l h d b) e)), λ g. sym (number-0 (verdict l h d b) (accepted-of g)))
+  pub zero-exactly : (number_in number_of (verdict l h d b) ≡ 0) ↔ Legal l h d b
+  zero-exactly = ((λ e. legal-of (number-zero (verdict l h d b) e)), λ g. ap (number_in number_of) (accepted-of g))
 
-  pub twice-first : (Distinct (ids l) → ⊥) → number_of (verdict l h d b) ≡ 31
+  pub twice-first : (Distinct (ids l) → ⊥) → number_in number_of (verdict l h d b) ≡ 31
   unfolding verdict
   twice-first n =
       ⊎_elim
       (λ (e : seen_before [] (ids l) ≡ Accepted). absurd (n (none_seen [] (ids l) e).0))
-      (λ (e : number_of (seen_before [] (ids l)) ≡ 31). ap number_of (breach-here (seen_before [] (ids l)) (from33 l h d b) (λ z. not-31 (sym e ∙ z))) ∙ e)
+      (λ (e : (x : ℕ) × (seen_before [] (ids l) ≡ Err (DuplicateRecordId x))). ap (number_in number_of) (breach-here (seen_before [] (ids l)) (from33 l h d b) (DuplicateRecordId e.0) e.1))
       (seen-or-31 [] (ids l))
 
 -- the same of three columns
-pick-12 : (w : Bool) (v : Verdict) → cond w v Refused ≡ Accepted → (w ≡ true) × (v ≡ Accepted)
+pick-12 : (w : Bool) (v : Verdict) → cond w v (Err Refused) ≡ Accepted → (w ≡ true) × (v ≡ Accepted)
 pick-12 true v e = (refl, e)
-pick-12 false v e = absurd (refused-not (number-12 Refused refl ∙ sym (number-0 Refused e)))
-  where
-    refused-not : ◌≡◌ {A = ℕ} 12 0 → ⊥
-    refused-not k = omega arith
+pick-12 false v e = absurd (not-accepted Refused e)
 
 module _ (is ss ts h d : List ℕ) (b : Banks) where
   abbrev l : List Entry
@@ -132,11 +121,11 @@ module _ (is ss ts h d : List ℕ) (b : Banks) where
   acceptance = record {
     zero-exactly = (
       (λ e. columns-legal (number-zero (verified is ss ts h d b) e)),
-      λ g. sym (number-0 (verified is ss ts h d b) (held-is g.0 ∙ accepted-of l h d b g.1)),
+      λ g. ap (number_in number_of) (held-is g.0 ∙ accepted-of l h d b g.1),
     );
     twice-first = λ e n.
         let z : Sound is ss ts = refused_none is ss ts e in
-        ap number_of (held-is e) ∙ twice-first l h d b (λ w. n (subst Distinct (ids-are is ss ts z.states z.torns) w));
+        ap (number_in number_of) (held-is e) ∙ twice-first l h d b (λ w. n (subst Distinct (ids-are is ss ts z.states z.torns) w));
   }
 
   pub accepts-columns : (verified is ss ts h d b ≡ Accepted) ↔ ((refused is ss ts ≡ 0) × Legal (ledger_of is ss ts) h d b)

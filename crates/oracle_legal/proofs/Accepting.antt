@@ -11,59 +11,18 @@ use mathlib.Core.Bool.{Bool, true, false, cond}
 use mathlib.Core.List.Memᴰ
 use mathlib.Core.List.{List, [], ◌∷◌, ◌++◌, map, Memᴰ}
 use Prim.Native.Nat.{ℕ, ◌+◌}
-use native.Mathlib.Omega.{arith}
 use lib.Dec.{eqb}
 use borrow.Author.Tests.{eq-eqb, eqb-true}
 use Rattle.model.specs.Ledger.{Entry, is_attempted, is_torn, lookup, passes}
 use Rattle.id_columns.specs.Ids.{has, Distinct}
 use Rattle.id_columns.proofs.Members.{in-has, has_in, out-has, not-both}
-use Rattle.oracle.specs.Verdict.{number_of, first_breach, seen_before, rising, fault_of, first_fault, differs, unrecovered, first_lost, banks_breach}
+use Rattle.std.specs.Prelude.{Option, None, Some, None as Absent, Some as Count, Err}
+use Rattle.oracle.specs.Verdict.{Verdict, Accepted, Banks, first_breach, seen_before, rising, fault_of, first_fault, differs, unrecovered, first_lost, banks_breach}
 use Rattle.oracle_legal.specs.Legal.{Beginning, Holds, AbsentOrOne}
-use Rattle.oracle.specs.declared.RecordOption.{RecordOption}
-use Rattle.oracle.specs.declared.RecordOption.TheVariants.{NoRecord, Record}
-use Rattle.oracle.specs.declared.Banks.{Banks}
-use Rattle.oracle.specs.declared.Banks.TheVariants.{Absent, Count}
-use Rattle.oracle.specs.declared.Verdict.{Verdict}
-use Rattle.oracle.specs.declared.Verdict.TheVariants.{Accepted, DuplicateRecordId, NotAPrefix, RecoveredWhatWasNeverAttempted, RecoveredATornRecord, LostAnAcknowledgedRecord, DispatchedWithoutADurableIntent, NoAuthoritativeBank, AmbiguousAuthority}
-use Rattle.oracle.proofs.Breaches.{breach-past, breach-none, number-0}
+use Rattle.oracle.specs.declared.Breach.{Breach}
+use Rattle.oracle.specs.declared.Breach.TheVariants.{DuplicateRecordId, NotAPrefix, RecoveredWhatWasNeverAttempted, RecoveredATornRecord, NoAuthoritativeBank, AmbiguousAuthority}
+use Rattle.oracle.proofs.Breaches.{breach-past, breach-none, not-accepted}
 use Rattle.oracle.proofs.Least.{in-rising, rising-in}
-
--- ---- a verdict with a number other than 0 is not Accepted
-
-not-accepted : (v : Verdict) → (number_of v ≡ 0 → ⊥) → v ≡ Accepted → ⊥
-not-accepted v n e = n (sym (number-0 v e))
-
-is-31 : (x : ℕ) → DuplicateRecordId x ≡ Accepted → ⊥
-unfolding number_of
-is-31 x = not-accepted (DuplicateRecordId x) (λ e. omega arith)
-
-is_32 : (p : ℕ) (o : RecordOption) (f : ℕ) → NotAPrefix p o f ≡ Accepted → ⊥
-unfolding number_of
-is_32 p o f = not-accepted (NotAPrefix p o f) (λ e. omega arith)
-
-is-33 : (x : ℕ) → RecoveredWhatWasNeverAttempted x ≡ Accepted → ⊥
-unfolding number_of
-is-33 x = not-accepted (RecoveredWhatWasNeverAttempted x) (λ e. omega arith)
-
-is-34 : (x : ℕ) → RecoveredATornRecord x ≡ Accepted → ⊥
-unfolding number_of
-is-34 x = not-accepted (RecoveredATornRecord x) (λ e. omega arith)
-
-pub is-35 : (x : ℕ) → LostAnAcknowledgedRecord x ≡ Accepted → ⊥
-unfolding number_of
-is-35 x = not-accepted (LostAnAcknowledgedRecord x) (λ e. omega arith)
-
-pub is-36 : (x : ℕ) → DispatchedWithoutADurableIntent x ≡ Accepted → ⊥
-unfolding number_of
-is-36 x = not-accepted (DispatchedWithoutADurableIntent x) (λ e. omega arith)
-
-is-37 : NoAuthoritativeBank ≡ Accepted → ⊥
-unfolding number_of
-is-37 = not-accepted NoAuthoritativeBank (λ e. omega arith)
-
-is-38 : (n : ℕ) → AmbiguousAuthority n ≡ Accepted → ⊥
-unfolding number_of
-is-38 n = not-accepted (AmbiguousAuthority n) (λ e. omega arith)
 
 -- ---- a test over a list accepts exactly if it accepts every element
 
@@ -77,12 +36,12 @@ module _ (test : ℕ → Verdict) where
   pub of-all : (xs : List ℕ) → ((x : ℕ) → Memᴰ x xs → test x ≡ Accepted) → first_breach (map test xs) ≡ Accepted
   unfolding first_breach
   of-all [] g = refl
-  of-all (y ∷ ys) g = breach-past (test y) (map test ys) (sym (number-0 (test y) (g y (Memᴰ.head refl)))) ∙ of-all ys (λ x m. g x (Memᴰ.tail m))
+  of-all (y ∷ ys) g = breach-past (test y) (map test ys) (g y (Memᴰ.head refl)) ∙ of-all ys (λ x m. g x (Memᴰ.tail m))
 
 -- ---- 31
 
-pick-31 : (b : Bool) (x : ℕ) (v : Verdict) → cond b (DuplicateRecordId x) v ≡ Accepted → (b ≡ false) × (v ≡ Accepted)
-pick-31 true x v e = absurd (is-31 x e)
+pick-31 : (b : Bool) (x : ℕ) (v : Verdict) → cond b (Err (DuplicateRecordId x)) v ≡ Accepted → (b ≡ false) × (v ≡ Accepted)
+pick-31 true x v e = absurd (not-accepted (DuplicateRecordId x) e)
 pick-31 false x v e = (refl, e)
 
 pub none_seen : (seen xs : List ℕ) → seen_before seen xs ≡ Accepted → Distinct xs × ((x : ℕ) → Memᴰ x xs → Memᴰ x seen → ⊥)
@@ -109,14 +68,14 @@ seen_none seen (y ∷ ys) d n =
 
 -- ---- 33 and 34
 
-pick-33 : (a t : Bool) (x : ℕ) → cond a (RecoveredWhatWasNeverAttempted x) (cond t (RecoveredATornRecord x) Accepted) ≡ Accepted → (a ≡ false) × (t ≡ false)
-pick-33 true t x e = absurd (is-33 x e)
-pick-33 false true x e = absurd (is-34 x e)
+pick-33 : (a t : Bool) (x : ℕ) → cond a (Err (RecoveredWhatWasNeverAttempted x)) (cond t (Err (RecoveredATornRecord x)) Accepted) ≡ Accepted → (a ≡ false) × (t ≡ false)
+pick-33 true t x e = absurd (not-accepted (RecoveredWhatWasNeverAttempted x) e)
+pick-33 false true x e = absurd (not-accepted (RecoveredATornRecord x) e)
 pick-33 false false x e = (refl, refl)
 
 neither : (l : List Entry) (x : ℕ) → passes is_attempted (lookup x l) ≡ false → passes is_torn (lookup x l) ≡ false → fault_of l x ≡ Accepted
 unfolding fault_of
-neither l x a t = ap₂ (λ (a t : Bool). cond a (RecoveredWhatWasNeverAttempted x) (cond t (RecoveredATornRecord x) Accepted)) a t
+neither l x a t = ap₂ (λ (a t : Bool). cond a (Err (RecoveredWhatWasNeverAttempted x)) (cond t (Err (RecoveredATornRecord x)) Accepted)) a t
 
 module _ (l : List Entry) (h : List ℕ) where
   pub none-faulty : first_fault l h ≡ Accepted → (x : ℕ) → Memᴰ x h → (passes is_attempted (lookup x l) ≡ false) × (passes is_torn (lookup x l) ≡ false)
@@ -129,16 +88,16 @@ module _ (l : List Entry) (h : List ℕ) where
 
 -- ---- 32
 
-pick-32 : (b : Bool) (v : Verdict) (p : ℕ) (o : RecordOption) (f : ℕ) → cond b v (NotAPrefix p o f) ≡ Accepted → (b ≡ true) × (v ≡ Accepted)
+pick-32 : (b : Bool) (v : Verdict) (p : ℕ) (o : Option ℕ) (f : ℕ) → cond b v (Err (NotAPrefix p o f)) ≡ Accepted → (b ≡ true) × (v ≡ Accepted)
 pick-32 true v p o f e = (refl, e)
-pick-32 false v p o f e = absurd (is_32 p o f e)
+pick-32 false v p o f e = absurd (not-accepted (NotAPrefix p o f) e)
 
 pub nowhere-beginning : (p : ℕ) (cs h : List ℕ) → differs p cs h ≡ Accepted → Beginning h cs
 unfolding differs
 nowhere-beginning p cs [] e = record { rest = cs; joined = refl }
-nowhere-beginning p [] (x ∷ xs) e = absurd (is_32 p NoRecord x e)
+nowhere-beginning p [] (x ∷ xs) e = absurd (not-accepted (NotAPrefix p None x) e)
 nowhere-beginning p (c ∷ cs) (x ∷ xs) e =
-    let q : (eqb c x ≡ true) × (differs (p + 1) cs xs ≡ Accepted) = pick-32 (eqb c x) (differs (p + 1) cs xs) p (Record c) x e in
+    let q : (eqb c x ≡ true) × (differs (p + 1) cs xs ≡ Accepted) = pick-32 (eqb c x) (differs (p + 1) cs xs) p (Some c) x e in
     let b : Beginning xs cs = nowhere-beginning (p + 1) cs xs q.1 in
     record { rest = b.rest; joined = ap₂ (λ (a : ℕ) (l : List ℕ). a ∷ l) (sym (eqb-true c x q.0)) b.joined }
 
@@ -152,14 +111,14 @@ beginning-nowhere p cs h b = ap (λ (l : List ℕ). differs p l h) (sym b.joined
 
 -- ---- 35 and 36: a breach that is one
 
-module _ (breach : ℕ → Verdict) (h : List ℕ) where
-  pick-35 : (x : ℕ) → (breach x ≡ Accepted → ⊥) → (b : Bool) → cond b Accepted (breach x) ≡ Accepted → b ≡ true
-  pick-35 x n true e = refl
-  pick-35 x n false e = absurd (n e)
+module _ (breach : ℕ → Breach) (h : List ℕ) where
+  pick-35 : (x : ℕ) (b : Bool) → cond b Accepted (Err (breach x)) ≡ Accepted → b ≡ true
+  pick-35 x true e = refl
+  pick-35 x false e = absurd (not-accepted (breach x) e)
 
-  pub none-lost : ((x : ℕ) → breach x ≡ Accepted → ⊥) → (wanted : List ℕ) → first_lost breach h wanted ≡ Accepted → Holds h wanted
+  pub none-lost : (wanted : List ℕ) → first_lost breach h wanted ≡ Accepted → Holds h wanted
   unfolding first_lost unrecovered
-  none-lost n wanted e x m = has_in x h (pick-35 x (n x) (has h x) (all_of (unrecovered breach h) wanted e x m))
+  none-lost wanted e x m = has_in x h (pick-35 x (has h x) (all_of (unrecovered breach h) wanted e x m))
 
   pub lost-none : (wanted : List ℕ) → Holds h wanted → first_lost breach h wanted ≡ Accepted
   unfolding first_lost unrecovered
@@ -167,10 +126,10 @@ module _ (breach : ℕ → Verdict) (h : List ℕ) where
 
 -- ---- 37 and 38
 
-pick-37 : (n : ℕ) (a b : Bool) → eqb n 1 ≡ b → cond a NoAuthoritativeBank (cond b Accepted (AmbiguousAuthority n)) ≡ Accepted → n ≡ 1
-pick-37 n true b t e = absurd (is-37 e)
+pick-37 : (n : ℕ) (a b : Bool) → eqb n 1 ≡ b → cond a (Err NoAuthoritativeBank) (cond b Accepted (Err (AmbiguousAuthority n))) ≡ Accepted → n ≡ 1
+pick-37 n true b t e = absurd (not-accepted NoAuthoritativeBank e)
 pick-37 n false true t e = eqb-true n 1 t
-pick-37 n false false t e = absurd (is-38 n e)
+pick-37 n false false t e = absurd (not-accepted (AmbiguousAuthority n) e)
 
 pub banks-pass : (b : Banks) → banks_breach b ≡ Accepted → AbsentOrOne b
 banks-pass Absent e = tt

@@ -1,12 +1,11 @@
 -- What a verdict 0 means, said without the verdict (demand 2): the ledger's ids are distinct, the history is a beginning of
 -- the committed ids without a torn one, it holds every acknowledged and every dispatched id, and the bank count is absent or
 -- one. Assumes nothing.
-use Rattle.std.specs.Prelude.{◌≡◌, ℕ}
+use Rattle.std.specs.Prelude.{◌≡◌, ℕ, None as Absent, Some as Count}
 use mathlib.Core.List.{List, ◌++◌, Memᴰ}
 use Rattle.model.specs.Ledger.{Entry, ids, committed, acknowledged, torn}
 use Rattle.id_columns.specs.Ids.{Distinct}
-use Rattle.oracle.specs.declared.Banks.{Banks}
-use Rattle.oracle.specs.declared.Banks.TheVariants.{Absent, Count}
+use Rattle.oracle.specs.Verdict.{Banks}
 
 -- a history that goes on to become the whole
 pub record Beginning (history whole : List ℕ) : Type 0 where

@@ -5,6 +5,8 @@
 //     tests/differential/run sample parts > crates/part_cases/stdout
 #![tactic(auto)]
 
+use basics::Numbered;
+use refusals::Refusal;
 use std::io;
 use text_parts::Part;
 
@@ -13,45 +15,45 @@ fn print_number(rt: &impl Print, n: u64) -> io::Result<()> {
 }
 
 // What a part answered, and its bytes.
-fn show(rt: &impl Print, part: Part, out: &[u8]) -> io::Result<()> {
-    match part {
-        Part::NoRoom(number) => {
+fn show(rt: &impl Print, answer: Result<Part, Refusal>, out: &[u8]) -> io::Result<()> {
+    match answer {
+        Err(refusal) => {
             rt.write_all(b" refused")?;
-            print_number(rt, number as u64)?;
+            print_number(rt, refusal.number() as u64)?;
             rt.write_all(b"\n")
         }
-        Part::Lines(lines, bytes, left) => {
-            print_number(rt, lines)?;
-            print_number(rt, bytes as u64)?;
-            print_number(rt, left)?;
+        Ok(part) => {
+            print_number(rt, part.lines)?;
+            print_number(rt, part.bytes as u64)?;
+            print_number(rt, part.left)?;
             rt.write_all(b"\n")?;
-            let n = basics::lower(bytes, out.len());
+            let n = basics::lower(part.bytes, out.len());
             rt.write_all(&out[..n])
         }
     }
 }
 
-fn sweep_case(rt: &impl Print, text: &[u8], from: u64, out: &mut [u8]) -> io::Result<()> {
-    rt.write_all(b"sweep")?;
+// What a program answered from a line on.
+fn part_case(
+    rt: &impl Print,
+    program: &[u8],
+    from: u64,
+    answer: Result<Part, Refusal>,
+    out: &[u8],
+) -> io::Result<()> {
+    rt.write_all(program)?;
     print_number(rt, out.len() as u64)?;
     print_number(rt, from)?;
-    let part = text_parts::sweep_part(text, from, out);
-    show(rt, part, out)
-}
-
-fn judge_case(rt: &impl Print, text: &[u8], from: u64, out: &mut [u8]) -> io::Result<()> {
-    rt.write_all(b"judge")?;
-    print_number(rt, out.len() as u64)?;
-    print_number(rt, from)?;
-    let part = text_parts::judge_part(text, from, out);
-    show(rt, part, out)
+    show(rt, answer, out)
 }
 
 // From each of thirteen lines on, and past them.
 fn line_cases(rt: &impl Print, text: &[u8], out: &mut [u8]) -> io::Result<()> {
     for from in 0..14 {
-        sweep_case(rt, text, from, out)?;
-        judge_case(rt, text, from, out)?;
+        let swept = text_parts::sweep_part(text, from, out);
+        part_case(rt, b"sweep", from, swept, out)?;
+        let judged = text_parts::judge_part(text, from, out);
+        part_case(rt, b"judge", from, judged, out)?;
     }
     Ok(())
 }

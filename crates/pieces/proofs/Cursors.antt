@@ -18,8 +18,7 @@ use lib.Dec.{leb}
 use borrow.Author.Tests.{le-leb, lt-leb}
 use Rattle.basics.specs.Parts.{overlaid}
 use Rattle.basics.proofs.Scans.{at-step, at-end}
-use Rattle.text.specs.declared.Printed.{Printed}
-use Rattle.text.specs.declared.Printed.TheVariants.{Next, NoRoom}
+use Rattle.std.specs.Prelude.{Option, Some as Next, None as NoRoom}
 use Rattle.text.specs.Numbers.{decimal_of}
 use Rattle.text.specs.Printing.{Print, printed_at}
 use Rattle.pieces.specs.Pieces.{letter, Cursor, cursor, after, after_all, letters}
@@ -75,7 +74,7 @@ module _ (byte at : ℕ) (out : List ℕ) where
 abbrev reached : (at : ℕ) → Print → Cursor
 reached at p = cursor (place p.reply) p.out
   where
-    place : Printed → ℕ
+    place : Option ℕ → ℕ
     place (Next past) = past
     place NoRoom = at
 
@@ -85,7 +84,7 @@ module _ (n at : ℕ) (out : List ℕ) where
   print-after true e = simp e
   print-after false e = simp e
 
-  module _ (r : Printed) (new : List ℕ) (e : ◌≡◌ {A = Print} (record { reply = r; out = new }) (printed_at n at out)) where
+  module _ (r : Option ℕ) (new : List ℕ) (e : ◌≡◌ {A = Print} (record { reply = r; out = new }) (printed_at n at out)) where
     told : reached at (record { reply = r; out = new }) ≡ after (decimal_of n) (cursor at out)
     told = ap (reached at) e ∙ print-after (leb (at + length (decimal_of n)) (length out)) refl
 

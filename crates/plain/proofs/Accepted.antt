@@ -4,7 +4,7 @@ use mathlib.Core.Path.{◌≡◌, refl, sym, ap}
 use mathlib.Core.Bool.{true, not, false≢true}
 use mathlib.Core.List.Memᴰ
 use mathlib.Core.List.{List, [], ◌++◌}
-use Prim.Native.Nat.{ℕ, ◌+◌, ◌≤◌}
+use Prim.Native.Nat.{ℕ, ◌≤◌}
 use native.Mathlib.Omega.{arith}
 use lib.ListN.{length, take, drop, length-append, take-append-drop}
 use lib.Seq.{take-append_seam}
@@ -13,12 +13,11 @@ use Rattle.model.specs.declared.Durability.{Durability}
 use Rattle.model.specs.declared.Durability.TheVariants.{Attempted, PossiblyDurable, Acknowledged}
 use Rattle.model.specs.Ledger.{Entry, code_of, is_committed, is_acknowledged, is_torn, ids, picked, committed, acknowledged, torn}
 use Rattle.id_columns.specs.Ids.{Distinct}
-use Rattle.oracle.specs.declared.Banks.{Banks}
+use Rattle.oracle.specs.Verdict.{Banks}
 use Rattle.oracle_legal.specs.Legal.{Legal, AbsentOrOne}
 use Rattle.oracle_legal.proofs.Acceptance.{accepts-exactly}
 use Rattle.session.specs.declared.Told.{Told}
-use Rattle.session.specs.declared.Armed.{Armed}
-use Rattle.session.specs.Armed.{cut_by}
+use Rattle.session.specs.Armed.{Armed, cut_by}
 use Rattle.plain.specs.Plain.{Call, Run, plain}
 use Rattle.plain.specs.Ledger.{ledger, begun}
 use Rattle.plain.specs.Claims.{CutOnce, OnlyTheLast, FirstOfCommitted, AcceptsExactly}

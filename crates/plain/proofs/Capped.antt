@@ -13,7 +13,7 @@ use lib.Seq.{take-nil, drop-nil, take_all}
 use Rattle.basics.proofs.Tests.{le-or-gt}
 use Rattle.inject.specs.declared.Injection.{Injection}
 use Rattle.session.specs.declared.Told.{Told}
-use Rattle.session.specs.declared.Armed.TheVariants.{Nothing, At}
+use Rattle.std.specs.Prelude.{None as Nothing, Some as At}
 use Rattle.session.specs.Armed.{cut_by}
 use Rattle.records.specs.Records.{Label, begin, end, RecordMark, next_place, record_at, records_to, entry_by, ledger_by}
 use Rattle.plain.specs.Plain.{Call, Op, Run, as_cut, plain}

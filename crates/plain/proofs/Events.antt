@@ -2,16 +2,16 @@
 --     records-are     "the operations taken from a taken begin to the next taken mark or the list's end"
 -- Assumes nothing.
 use mathlib.Core.Path.{◌≡◌, refl, sym, ap, ◌∙◌}
-use mathlib.Core.List.{List, [], ◌∷◌, ◌++◌, append_assoc, append-nil, map}
+use mathlib.Core.List.{List, [], ◌∷◌, ◌++◌, append_assoc, append-nil}
 use Prim.Native.Nat.{ℕ, ◌+◌}
-use lib.ListN.{length, drop, length-append}
+use lib.ListN.{length, length-append}
 use lib.Seq.{drop-length, drop-append_seam}
 use Rattle.session.specs.declared.Told.{Told}
 use Rattle.landing.specs.declared.Stop.{Stop}
-use Rattle.records.specs.Records.{Label, RecordMark, records_of}
-use Rattle.records.specs.Events.{Event, took, noted, ops_in, records_in, marks_after}
+use Rattle.records.specs.Records.{Label, RecordMark}
+use Rattle.records.specs.Events.{Event, ops_in, records_in, marks_after}
 use Rattle.records.proofs.Events.{records-in-order, ops-joined, marks-joined}
-use Rattle.plain.specs.Plain.{Act, Call, act, mark, Op, Run, refusal, mark_refusal, wholly, ending_by, as_cut, refused, taken, marked, unless_refused, step, run, unrun, plain}
+use Rattle.plain.specs.Plain.{Call, act, mark, Op, Run, refusal, mark_refusal, wholly, refused, taken, marked, step, run, unrun, plain}
 use Rattle.plain.specs.Ledger.{records}
 use Rattle.plain.specs.Events.{added, events_from, events}
 use Rattle.plain.proofs.Runs.{taken-either, unless-either}

@@ -22,9 +22,8 @@ use Rattle.landing.specs.Landed.{rounded_up}
 use Rattle.model.specs.declared.Durability.{Durability}
 use Rattle.model.specs.declared.Durability.TheVariants.{Attempted, PossiblyDurable, Acknowledged}
 use Rattle.model.specs.Ledger.{Entry, is_committed, picked}
-use Rattle.session.specs.declared.Armed.{Armed}
-use Rattle.session.specs.declared.Armed.TheVariants.{Nothing, At}
-use Rattle.session.specs.Armed.{told_with}
+use Rattle.session.specs.Armed.{Armed, told_with}
+use Rattle.std.specs.Prelude.{None as Nothing, Some as At}
 use Rattle.session.specs.Tests.{operation_test, mark_test}
 use Rattle.session_program.specs.Program.{span_number, bit_test}
 use Rattle.records.specs.Records.{begin, end, any, record_at, records_to, behind, judged, entry_by, ledger_by}

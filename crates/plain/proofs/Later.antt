@@ -13,7 +13,7 @@ use Rattle.device.proofs.Pairs.{false_left, false_right}
 use Rattle.storage.specs.declared.Geometry.{Geometry}
 use Rattle.inject.specs.declared.Injection.{Injection}
 use Rattle.session.specs.declared.Told.{Told}
-use Rattle.session.specs.declared.Armed.TheVariants.{Nothing, At}
+use Rattle.std.specs.Prelude.{None as Nothing, Some as At}
 use Rattle.session.specs.Armed.{cut_by}
 use Rattle.model.specs.Ledger.{Entry, is_acknowledged}
 use Rattle.records.specs.Records.{Label, begin, end, RecordMark, any, next_place, record_at, records_to, judged, entry_by, ledger_by}

@@ -13,9 +13,8 @@ use Rattle.basics.proofs.Tests.{le-or-gt}
 use Rattle.device.specs.Media.{any_pair}
 use Rattle.inject.specs.declared.Injection.{Injection}
 use Rattle.session.specs.declared.Told.{Told}
-use Rattle.session.specs.declared.Armed.{Armed}
-use Rattle.session.specs.declared.Armed.TheVariants.{Nothing, At}
-use Rattle.session.specs.Armed.{cut_by}
+use Rattle.session.specs.Armed.{Armed, cut_by}
+use Rattle.std.specs.Prelude.{None as Nothing, Some as At}
 use Rattle.model.specs.Ledger.{Entry, is_committed, picked}
 use Rattle.records.specs.Records.{Label, begin, end, RecordMark, any, next_place, record_at, records_to, behind, judged, entry_by, ledger_by}
 use Rattle.plain.specs.Plain.{Call, barrier, Op, Run, wholly, plain}

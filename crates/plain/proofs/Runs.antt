@@ -12,8 +12,8 @@ use Rattle.storage.specs.declared.Geometry.{Geometry}
 use Rattle.inject.specs.declared.Injection.{Injection}
 use Rattle.landing.specs.declared.Stop.TheVariants.{Running}
 use Rattle.session.specs.declared.Told.{Told}
-use Rattle.session.specs.declared.Armed.{Armed}
-use Rattle.session.specs.declared.Armed.TheVariants.{Nothing, At}
+use Rattle.session.specs.Armed.{Armed}
+use Rattle.std.specs.Prelude.{None as Nothing, Some as At}
 use Rattle.records.specs.Records.{Label}
 use Rattle.plain.specs.Plain.{Act, Call, act, mark, Op, Run, refusal, mark_refusal, wholly, ending_by, as_cut, refused, taken, taken_by, marked, unless_refused, step, run, unrun, plain}
 

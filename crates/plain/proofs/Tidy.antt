@@ -15,7 +15,7 @@ use Rattle.inject.specs.declared.Injection.{Injection}
 use Rattle.landing.specs.declared.Stop.{Stop}
 use Rattle.landing.specs.declared.Stop.TheVariants.{Running}
 use Rattle.session.specs.declared.Told.{Told}
-use Rattle.session.specs.declared.Armed.TheVariants.{Nothing}
+use Rattle.std.specs.Prelude.{None as Nothing}
 use Rattle.session.specs.Armed.{cut_by}
 use Rattle.records.specs.Records.{Label, RecordMark}
 use Rattle.plain.specs.Plain.{Act, program, erase, barrier, Call, Op, Run, wholly, as_cut, ending_by, taken, taken_by, marked, plain}

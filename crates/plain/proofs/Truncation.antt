@@ -20,7 +20,7 @@ use Rattle.inject.specs.declared.Injection.{Injection}
 use Rattle.landing.specs.declared.Stop.TheVariants.{Running}
 use Rattle.landing.specs.Ending.{ending_of, stop_number}
 use Rattle.session.specs.declared.Told.{Told}
-use Rattle.session.specs.declared.Armed.TheVariants.{Nothing, At}
+use Rattle.std.specs.Prelude.{None as Nothing, Some as At}
 use Rattle.session.specs.Tests.{mark_test}
 use Rattle.session.specs.Armed.{cut_by}
 use Rattle.session_program.specs.Program.{span_number}

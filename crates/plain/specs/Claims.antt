@@ -1,19 +1,15 @@
 -- Document 01, "Demand 3": what is claimed of every list of calls, uncut or cut once by power loss or watchdog, at any index with any
 -- progress. `Plain` has the plain run and `Ledger` its ledger; the theorems are in proofs/Theorems.antt. Definitions only; assumes nothing.
-use Rattle.std.specs.Prelude.{◌↔◌, ◌≡◌, Bool, true, false, not, ◌||◌, cond, List, [], ◌∷◌, ◌++◌, map, ℕ, suc, ◌≤◌, ◌<◌, min, length, take, get_or}
+use Rattle.std.specs.Prelude.{◌↔◌, ◌≡◌, Bool, true, false, not, ◌||◌, cond, List, [], ◌∷◌, ◌++◌, map, ℕ, suc, ◌≤◌, ◌<◌, min, length, take, get_or, None as Nothing, Some as At}
 use Rattle.storage.specs.declared.Geometry.{Geometry}
 use Rattle.inject.specs.declared.Interruption.TheVariants.{Failure}
 use Rattle.inject.specs.declared.Injection.{Injection}
 use Rattle.model.specs.Ledger.{Entry, is_acknowledged, is_committed, is_torn, picked, committed}
 use Rattle.id_columns.specs.Ids.{Distinct}
-use Rattle.oracle.specs.declared.Banks.{Banks}
-use Rattle.oracle.specs.declared.Verdict.TheVariants.{Accepted}
-use Rattle.oracle.specs.Verdict.{verdict}
+use Rattle.oracle.specs.Verdict.{Banks, Accepted, verdict}
 use Rattle.oracle_legal.specs.Legal.{AbsentOrOne}
 use Rattle.session.specs.declared.Told.{Told}
-use Rattle.session.specs.declared.Armed.{Armed}
-use Rattle.session.specs.declared.Armed.TheVariants.{Nothing, At}
-use Rattle.session.specs.Armed.{cut_by}
+use Rattle.session.specs.Armed.{Armed, cut_by}
 use Rattle.records.specs.Records.{RecordMark, Kept}
 use Rattle.records.specs.Events.{records_in}
 use Rattle.plain.specs.Plain.{Call, Op, Run, as_cut, plain}

@@ -1,6 +1,6 @@
 -- Document 01, "Demand 3": the plain run. It is fed what the start was told, the media as the start left them, and each call's kind, id,
 -- span and bytes alone; it knows no column, no digest and no copy. Definitions only; assumes nothing.
-use Rattle.std.specs.Prelude.{Bool, cond, List, [], ◌∷◌, ◌++◌, ℕ, ◌+◌, length, take, drop, replicate, eqb}
+use Rattle.std.specs.Prelude.{Bool, cond, List, [], ◌∷◌, ◌++◌, ℕ, ◌+◌, length, take, drop, replicate, eqb, None as Nothing, Some as At}
 use Rattle.basics.specs.Tests.{first_of}
 use Rattle.basics.specs.Parts.{part}
 use Rattle.storage.specs.declared.Geometry.{Geometry}
@@ -10,12 +10,10 @@ use Rattle.device.specs.Media.{ff, anded}
 use Rattle.inject.specs.declared.Injection.{Injection}
 use Rattle.landing.specs.declared.Stop.{Stop}
 use Rattle.landing.specs.declared.Stop.TheVariants.{Running}
-use Rattle.landing.specs.declared.Ending.{Ending}
+use Rattle.landing.specs.Ending.{Ending, ending_of, stop_number}
 use Rattle.landing.specs.Landed.{program_landed, erase_landed, ran}
-use Rattle.landing.specs.Ending.{ending_of, stop_number}
 use Rattle.session.specs.declared.Told.{Told}
-use Rattle.session.specs.declared.Armed.{Armed}
-use Rattle.session.specs.declared.Armed.TheVariants.{Nothing, At}
+use Rattle.session.specs.Armed.{Armed}
 use Rattle.session.specs.Tests.{operation_test, mark_test}
 use Rattle.session_program.specs.Program.{span_number, bit_test}
 use Rattle.records.specs.Records.{Label, RecordMark}

@@ -23,7 +23,7 @@ use Rattle.inject.specs.declared.Injection.{Injection}
 use Rattle.landing.specs.Ending.{ending_of, stop_number}
 use Rattle.model.specs.Ledger.{Entry, is_acknowledged, picked, ids, acknowledged}
 use Rattle.session.specs.declared.Told.{Told}
-use Rattle.session.specs.declared.Armed.TheVariants.{Nothing, At}
+use Rattle.std.specs.Prelude.{None as Nothing, Some as At}
 use Rattle.session.specs.Armed.{cut_by}
 use Rattle.session_program.specs.Program.{span_number}
 use Rattle.records.specs.Records.{Label, begin, end, RecordMark, Asked, Kept, any, next_place, record_at, records_to, judged, entry_by, ledger_by}

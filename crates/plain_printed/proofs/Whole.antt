@@ -17,12 +17,12 @@ use Rattle.device.specs.Media.{ff, new_media}
 use Rattle.inject.specs.declared.Injection.{Injection}
 use Rattle.inject.specs.Points.{injections_of}
 use Rattle.model.specs.Ledger.{acknowledged}
-use Rattle.oracle.specs.declared.Verdict.{Verdict}
-use Rattle.oracle.specs.Verdict.{number_of}
+use Rattle.basics.specs.Replies.{number_in}
+use Rattle.oracle.specs.Verdict.{Verdict, number_of}
 use Rattle.oracle_legal.specs.Legal.{Holds}
 use Rattle.session.specs.declared.Told.{Told}
-use Rattle.session.specs.declared.Armed.{Armed}
-use Rattle.session.specs.declared.Armed.TheVariants.{Nothing, At}
+use Rattle.session.specs.Armed.{Armed}
+use Rattle.std.specs.Prelude.{None as Nothing, Some as At}
 use Rattle.session.specs.Tests.{size_test, start_number}
 use Rattle.plain.specs.Plain
 use Rattle.plain.specs.Plain.{Run, unrun, plain}
@@ -117,10 +117,10 @@ module _ (h : Head) (xs : List Call) (passes : geometry_test h.geometry ≡ 0) (
 
     accepted : CutOnce a → Distinct (begun (plain_run h a xs).marks) → (place : ℕ)
         → judge_line place (run_shown h xs a) ≡ judged_line place 0 (suggested (run_shown h xs a).ledger)
-    unfolding judge_line number_of
+    unfolding judge_line
     accepted o d place =
         rw run-session
-        (ap (λ (v : Verdict). judged_line place (number_of v) (suggested (shown_by h a (threaded t s some).session).ledger))
+        (ap (λ (v : Verdict). judged_line place (number_in number_of v) (suggested (shown_by h a (threaded t s some).session).ledger))
         (suggested-accepted _ (all.only-the-last o) (all.accepts-exactly o d)))
 
     run-plain : RunIsPlain h xs a

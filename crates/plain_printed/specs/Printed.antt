@@ -1,13 +1,12 @@
 -- Document 01, "Demand 3", said of the lines that `sweep` and `judge` print, for every script without `M`: the plain run knows no call that
 -- marks a range. `Reached` has the plain run of a script's lines; `sweeps` specs/Sweep and specs/Decided have its run through a session,
 -- and the text. The proof is `printed` in proofs/Whole.antt. Definitions only; assumes nothing.
-use Rattle.std.specs.Prelude.{◌≡◌, true, false, List, ℕ, ◌<◌}
+use Rattle.std.specs.Prelude.{◌≡◌, true, false, List, ℕ, ◌<◌, None as Nothing, Some as At}
 use Rattle.inject.specs.declared.Injection.{Injection}
 use Rattle.id_columns.specs.Ids.{Distinct}
 use Rattle.model.specs.Ledger.{acknowledged}
 use Rattle.oracle_legal.specs.Legal.{Holds}
-use Rattle.session.specs.declared.Armed.{Armed}
-use Rattle.session.specs.declared.Armed.TheVariants.{Nothing, At}
+use Rattle.session.specs.Armed.{Armed}
 use Rattle.plain.specs.Ledger.{begun, records}
 use Rattle.plain.specs.Claims.{CutOnce, OnlyTheLast, AcceptsExactly, AllInOrder}
 use Rattle.script.specs.declared.Head.{Head}

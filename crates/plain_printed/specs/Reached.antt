@@ -1,12 +1,11 @@
 -- Document 01, "Scripts and the two programs" and "Demand 3": a script's run and its sweep as plain runs. Definitions only; assumes nothing.
-use Rattle.std.specs.Prelude.{Bool, true, false, not, ◌&&◌, ◌||◌, cond, List, [], ◌∷◌, map, ℕ, suc, length, take, eqb}
+use Rattle.std.specs.Prelude.{Bool, false, not, ◌&&◌, ◌||◌, cond, List, [], ◌∷◌, map, ℕ, suc, length, take, eqb, None as Nothing, Some as At}
 use Rattle.device.specs.Media.{new_media}
 use Rattle.inject.specs.declared.Op as Inject
 use Rattle.inject.specs.declared.Op.TheVariants.{Program, Erase, Barrier}
 use Rattle.inject.specs.declared.Injection.{Injection}
 use Rattle.inject.specs.Points.{injections_of}
-use Rattle.session.specs.declared.Armed.{Armed}
-use Rattle.session.specs.declared.Armed.TheVariants.{Nothing, At}
+use Rattle.session.specs.Armed.{Armed}
 use Rattle.plain.specs.Plain
 use Rattle.plain.specs.Plain.{Kind, is_program, is_erase, is_barrier, Op, Run, plain}
 use Rattle.plain.specs.Ledger.{ledger}

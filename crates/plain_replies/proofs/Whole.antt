@@ -3,34 +3,29 @@
 --     replays     of `replay`
 -- Assumes nothing.
 use mathlib.Core.Path.{◌≡◌, refl, sym, ap, subst, ◌∙◌}
-use mathlib.Core.List.{List, [], ◌++◌}
-use Prim.Native.Nat.{ℕ, zero, suc, ◌<◌}
+use mathlib.Core.List.{List, []}
+use Prim.Native.Nat.{ℕ, zero, suc}
 use native.Mathlib.Nat.{suc-ne-zero}
 use native.Mathlib.Omega.{arith}
 use lib.ListN.{length, take, drop}
 use lib.Seq.{take-append_seam}
 use borrow.Author.Tests.{ne_eqb}
 use Rattle.device.specs.Media.{new_media}
-use Rattle.inject.specs.declared.Injection.{Injection}
 use Rattle.model.specs.Ledger.{Entry}
 use Rattle.oracle.specs.Verdict.{verdict, verified}
 use Rattle.session.specs.declared.Told.{Told}
 use Rattle.session.specs.declared.Counters.{Counters}
-use Rattle.session.specs.declared.Armed.TheVariants.{Nothing, At}
-use Rattle.session.specs.declared.Started.TheVariants
-use Rattle.session.specs.declared.Started.TheVariants.{NotStarted}
+use Rattle.std.specs.Prelude.{None as Nothing, Some as At, Ok, Err}
 use Rattle.session.specs.Armed.{cut_by}
 use Rattle.session.specs.Log.{Log, Marks}
 use Rattle.session.specs.Tests.{start_test, size_test, log_test, marks_test}
-use Rattle.session.specs.Start.{fresh, Opened, opened, started}
+use Rattle.session.specs.Start.{fresh, Started, Opened, opened, started}
 use Rattle.session.proofs.Refusals.{sizes-fit}
-use Rattle.ledger.specs.declared.Derived.{Derived}
-use Rattle.ledger.specs.declared.Derived.TheVariants.{Entries, NotDerived}
-use Rattle.ledger.specs.Ledger.{Entered}
+use Rattle.ledger.specs.Ledger.{Derived, Entered}
 use Rattle.ledger.proofs.Readback.{first_rows, refused_in, rows_back, reads-back}
 use Rattle.plain.specs.Plain.{Call, Run, unrun, plain}
-use Rattle.plain.specs.Ledger.{records, ledger}
-use Rattle.plain.specs.Claims.{CutOnce, FirstOfCommitted, AllInOrder, Keeps, Claims}
+use Rattle.plain.specs.Ledger.{ledger}
+use Rattle.plain.specs.Claims.{CutOnce, FirstOfCommitted, Claims}
 use Rattle.plain.proofs.Theorems.{claims}
 use Rattle.threaded.specs.Threaded.{Session, Fresh, threaded}
 use Rattle.threaded.specs.Claim.{plain_of}
@@ -65,32 +60,32 @@ columns-judged t media xs n e once (l, z) =
 
 -- ---- `start`, the calls, `ledger`
 
--- a start that answered `Fresh` was not refused
+-- a start that answered counters was not refused
 unrefused : (t : Told) (media copy : List ℕ) (l : Log) (m : Marks) (c : Counters) (left : List ℕ) (number : ℕ)
-    → start_test t.geometry (length media) (length copy) l m ≡ number → started t media (length copy) l m ≡ opened (TheVariants.Fresh c) left
+    → start_test t.geometry (length media) (length copy) l m ≡ number → started t media (length copy) l m ≡ opened (Ok c) left
     → start_test t.geometry (length media) (length copy) l m ≡ 0
 unfolding started
 unrefused t media copy l m c left zero e q = e
 unrefused t media copy l m c left (suc k) e q =
-    let r : opened (NotStarted (suc k)) media ≡ opened (TheVariants.Fresh c) left = rw (e, ne_eqb (suc k) 0 (suc-ne-zero k)) at q in
-    let z : NotStarted (suc k) ≡ TheVariants.Fresh c = ap (λ (y : Opened). y.reply) r in
+    let r : opened (Err (suc k)) media ≡ opened (Ok c) left = rw (e, ne_eqb (suc k) 0 (suc-ne-zero k)) at q in
+    let z : ◌≡◌ {A = Started} (Err (suc k)) (Ok c) = ap (λ (y : Opened). y.reply) r in
     let v : ◌≡◌ {A = ℕ} 0 1 = cc in
     omega arith
 
 started-fresh : (t : Told) (media copy : List ℕ) (l : Log) (m : Marks) (c : Counters) (left : List ℕ)
-    → started t media (length copy) l m ≡ opened (TheVariants.Fresh c) left → Fresh t (session_of c left copy l m)
+    → started t media (length copy) l m ≡ opened (Ok c) left → Fresh t (session_of c left copy l m)
 started-fresh t media copy l m c left q =
     let z = start-fresh t media copy l m (unrefused t media copy l m c left _ refl q) in
-    let both : opened (TheVariants.Fresh fresh) (new_media (length media)) ≡ opened (TheVariants.Fresh c) left = sym z.0 ∙ q in
+    let both : opened (Ok fresh) (new_media (length media)) ≡ opened (Ok c) left = sym z.0 ∙ q in
     let a : fresh ≡ c = inside c (ap (λ (y : Opened). y.reply) both) in
     let b : new_media (length media) ≡ left = ap (λ (y : Opened). y.media) both in
     subst (λ (k : Counters). Fresh t (session_of k left copy l m)) a (subst (λ (d : List ℕ). Fresh t (session_of fresh d copy l m)) b z.1)
   where
-    inside : (k : Counters) → TheVariants.Fresh fresh ≡ TheVariants.Fresh k → fresh ≡ k
+    inside : (k : Counters) → ◌≡◌ {A = Started} (Ok fresh) (Ok k) → fresh ≡ k
     inside k w = cc
 
 after-a-start : (t : Told) (media copy : List ℕ) (l : Log) (m : Marks) (c : Counters) (left : List ℕ)
-    → started t media (length copy) l m ≡ opened (TheVariants.Fresh c) left → (xs : List Call)
+    → started t media (length copy) l m ≡ opened (Ok c) left → (xs : List Call)
     → Fresh t (session_of c left copy l m) × Demand3 t (session_of c left copy l m) xs
 after-a-start t media copy l m c left q xs =
     let f : Fresh t (session_of c left copy l m) = started-fresh t media copy l m c left q in
@@ -142,14 +137,14 @@ module _ (t : Told) (rows : ℕ) (k : Columns) (x : Lent) (n : ℕ) (y : Lent) w
   left-by : (number : ℕ) → replay_number t rows k x ≡ number → Replays t rows k x n y → Left
   unfolding replay_call
   left-by zero e q =
-      let r : replayed (Entries (length (ledger run))) (leaves run last x) ≡ replayed (Entries n) y = rw e at q in
+      let r : replayed (Ok (length (ledger run))) (leaves run last x) ≡ replayed (Ok n) y = rw e at q in
       record { passes = e; many = inside (length (ledger run)) (ap (λ (z : ReplayReply). z.reply) r); leaves-it = ap (λ (z : ReplayReply). z.lent) r }
     where
-      inside : (a : ℕ) → Entries a ≡ Entries n → a ≡ n
+      inside : (a : ℕ) → ◌≡◌ {A = Derived} (Ok a) (Ok n) → a ≡ n
       inside a w = cc
   left-by (suc m) e q =
-      let r : replayed (NotDerived (suc m)) x ≡ replayed (Entries n) y = rw (e, ne_eqb (suc m) 0 (suc-ne-zero m)) at q in
-      let z : NotDerived (suc m) ≡ Entries n = ap (λ (z : ReplayReply). z.reply) r in
+      let r : replayed (Err (suc m)) x ≡ replayed (Ok n) y = rw (e, ne_eqb (suc m) 0 (suc-ne-zero m)) at q in
+      let z : ◌≡◌ {A = Derived} (Err (suc m)) (Ok n) = ap (λ (z : ReplayReply). z.reply) r in
       let v : ◌≡◌ {A = ℕ} 0 1 = cc in
       absurd (suc-ne-zero 0 (sym v))
 

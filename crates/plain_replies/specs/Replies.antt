@@ -2,25 +2,19 @@
 -- of them in one; the verdict is `verify_oracle`'s over the columns that they left. `threaded` specs/Demand3 has the theorems, over the
 -- definitions that the functions' promises cite. The proofs are `replies` and `replays` in proofs/Whole.antt. Definitions only; assumes
 -- nothing.
-use Rattle.std.specs.Prelude.{◌↔◌, ◌≡◌, List, [], ℕ, ◌<◌, length, take}
+use Rattle.std.specs.Prelude.{◌↔◌, ◌≡◌, None as Nothing, Some as At, Ok, List, [], ℕ, ◌<◌, length, take}
 use Rattle.inject.specs.declared.Injection.{Injection}
 use Rattle.id_columns.specs.Ids.{Distinct}
 use Rattle.model.specs.Ledger.{Entry}
 use Rattle.model.specs.Columns.{ledger_of}
-use Rattle.oracle.specs.declared.Banks.{Banks}
-use Rattle.oracle.specs.declared.Verdict.{Verdict}
-use Rattle.oracle.specs.declared.Verdict.TheVariants.{Accepted}
-use Rattle.oracle.specs.Verdict.{verified}
+use Rattle.oracle.specs.Verdict.{Banks, Verdict, Accepted, verified}
 use Rattle.oracle_legal.specs.Legal.{AbsentOrOne}
 use Rattle.session.specs.declared.Told.{Told}
 use Rattle.session.specs.declared.Counters.{Counters}
-use Rattle.session.specs.declared.Armed.TheVariants.{Nothing, At}
-use Rattle.session.specs.declared.Started.TheVariants
 use Rattle.session.specs.Armed.{cut_by}
 use Rattle.session.specs.Log.{Log, Marks}
 use Rattle.session.specs.Tests.{size_test, log_test, marks_test}
 use Rattle.session.specs.Start.{opened, started}
-use Rattle.ledger.specs.declared.Derived.TheVariants.{Entries}
 use Rattle.ledger.specs.Ledger.{Entered, ledgered}
 use Rattle.plain.specs.Plain.{Call, Run}
 use Rattle.plain.specs.Ledger.{records, begun, ledger}
@@ -55,12 +49,12 @@ pub record Judged (run : Run) (n : ℕ) (e : Entered) : Type 0 where
 pub record Derives (t : Told) (s : Session) (xs : List Call) (n : ℕ) (e : Entered) : Type 0 where
   pub fresh : Fresh t s
   pub lent : Entered
-  pub derives : session_ledgered t (threaded t s xs).session lent ≡ ledgered (Entries n) e
+  pub derives : session_ledgered t (threaded t s xs).session lent ≡ ledgered (Ok n) e
 
 pub record Replies : Type 0 where
-  -- whatever a start answered with `Fresh`, demand 3 is due of it
+  -- whatever a start left that was not refused, demand 3 is due of it
   pub after-a-start : (t : Told) (media copy : List ℕ) (l : Log) (m : Marks) (c : Counters) (left : List ℕ)
-      → started t media (length copy) l m ≡ opened (TheVariants.Fresh c) left → (xs : List Call)
+      → started t media (length copy) l m ≡ opened (Ok c) left → (xs : List Call)
       → Fresh t (session_of c left copy l m) × Demand3 t (session_of c left copy l m) xs
   -- 7, and 12 and 13 of log and marks, refuse no call of a list, nor `ledger` after it
   pub lengths-stay : (t : Told) (s : Session) → Fresh t s → (xs : List Call)
@@ -81,7 +75,7 @@ pub record Replies : Type 0 where
 
 -- `replay` answered n entries and left `y`
 abbrev pub Replays : Told → (rows : ℕ) → Columns → (x : Lent) → (n : ℕ) → (y : Lent) → Type 0
-Replays t rows k x n y = replay_call t rows k x ≡ replayed (Entries n) y
+Replays t rows k x n y = replay_call t rows k x ≡ replayed (Ok n) y
 
 pub record Replayed : Type 0 where
   -- 1: the answers and the media that it left are the plain run's; 1 to 3 of its ledger

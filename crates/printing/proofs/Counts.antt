@@ -20,8 +20,8 @@ use Rattle.pieces.proofs.Lists.{flatten-append}
 use Rattle.lines.specs.Lines.{Shown}
 use Rattle.sweeps.specs.Sweep.{Swept, runs, not_swept, swept_of, sweep_output, judge_output}
 use Rattle.text_of_runs.specs.Printout.{lines_by, sweep_lines, judge_lines}
-use Rattle.text_parts.specs.declared.Part.{Part}
-use Rattle.text_parts.specs.declared.Part.TheVariants.{Lines, NoRoom}
+use Rattle.text_parts.specs.Parts.{Part}
+use Rattle.text_parts.specs.Parts.{Lines, NoRoom}
 use Rattle.text_parts.specs.Parts.{fitting, PartLeft, part_left, part_of, Parts}
 use Rattle.text_parts.proofs.Whole.{all-parts}
 use Rattle.std.specs.declared.option.Option.{Option}

@@ -8,9 +8,10 @@
 ghost use Rattle.std.specs.Prelude.{◌≡◌, ◌≢◌, true, ◌≤◌, length, take, drop, IfOk};
 ghost use Rattle.std.specs.Io.KnownBytes.{Consumes, IsAtEnd, ReadConsumes, WriteAppends};
 ghost use Rattle.text_of_runs.specs.Printout.{sweep_lines, judge_lines};
-ghost use Rattle.text_parts.specs.Parts.{part_left, part_of};
+ghost use Rattle.text_parts.specs.Parts.{part_as, part_left, part_of};
 ghost use Rattle.printing.specs.Output.{printed_of, lines_for, FrontOf, Written};
 
+use refusals::Refusal;
 use std::io;
 use std::io::{ErrorKind, Read, Write};
 use text_parts::Part;
@@ -19,7 +20,7 @@ use text_parts::Part;
 pub const ENOUGH: usize = 65537;
 
 // How many lines standard output took, how many bytes these have, and whether they are the whole text.
-#[derive(Clone, Copy)]
+#[derive(Clone, Copy, Debug, PartialEq, Eq)]
 pub struct Printed {
     pub lines: u64,
     pub bytes: u64,
@@ -44,7 +45,8 @@ fn read_some<R: Read>(input: &mut R, buf: &mut [u8]) -> io::Result<usize>
     Err(io::Error::from(ErrorKind::Interrupted))
 }
 
-// Reads until the buffer is full, the input ends or a read fails: how many bytes stand at the buffer's start.
+// Reads until the buffer is full, the input ends or a read fails: how many bytes stand at the buffer's start. (`read_exact` says
+// nothing of these where the input is shorter, and `read_to_end` needs a heap.)
 pub fn read_full<R: Read>(input: &mut R, text: &mut [u8]) -> usize
     ensures within { result ≤ length text.new }
     ensures bytes { Consumes (R.remaining input.old) (R.remaining input.new) (take result text.new) }
@@ -78,8 +80,8 @@ pub fn input_ended<R: Read>(rt: &impl Eprint, input: &mut R, taken: usize) -> bo
 }
 
 // The part of a program's text from a line on.
-fn part_of(judged: bool, text: &[u8], from: u64, out: &mut [u8]) -> Part
-    ensures { part_left result out.new ≡ part_of (drop from (lines_for judged text.now)) out.old }
+fn part_of(judged: bool, text: &[u8], from: u64, out: &mut [u8]) -> Result<Part, Refusal>
+    ensures { part_left (part_as result) out.new ≡ part_of (drop from (lines_for judged text.now)) out.old }
 {
     if judged {
         return text_parts::judge_part(text, from, out);
@@ -87,7 +89,8 @@ fn part_of(judged: bool, text: &[u8], from: u64, out: &mut [u8]) -> Part
     text_parts::sweep_part(text, from, out)
 }
 
-// One write, made again where a signal interrupts it.
+// One write, made again where a signal interrupts it. (As `read_some`: one function for both would need a trait of its own, and two
+// promises in it.)
 fn write_some<W: Write>(to: &mut W, bytes: &[u8]) -> io::Result<usize>
     ensures within { IfOk result (λ n. n ≤ length bytes.now) }
     ensures bytes { WriteAppends (W.contents to.old) (W.contents to.new) result bytes.now }
@@ -105,7 +108,7 @@ fn write_some<W: Write>(to: &mut W, bytes: &[u8]) -> io::Result<usize>
     Err(io::Error::from(ErrorKind::Interrupted))
 }
 
-// Writes bytes up to the first that are not taken: whether all were.
+// Writes bytes up to the first that are not taken: whether all were. (`write_all` says nothing of those taken where it fails.)
 fn hand_over<W: Write>(rt: &impl Eprint, to: &mut W, bytes: &[u8]) -> bool
     ensures { FrontOf (W.contents to.old) (W.contents to.new) bytes.now result }
 {
@@ -133,8 +136,7 @@ fn print<W: Write>(rt: &impl Eprint, to: &mut W, judged: bool, text: &[u8]) -> P
     let mut from: u64 = 0;
     let mut printed: u64 = 0;
     loop {
-        let part = part_of(judged, text, from, &mut out);
-        let Part::Lines(lines, bytes, left) = part else {
+        let Ok(Part { lines, bytes, left }) = part_of(judged, text, from, &mut out) else {
             // Never taken: there is room for every line.
             return Printed {
                 lines: 0,

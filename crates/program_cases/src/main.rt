@@ -4,9 +4,6 @@
 //     (tests/differential/run sample sweep; tests/differential/run sample judge) > crates/program_cases/stdout
 #![tactic(auto)]
 
-ghost use Rattle.std.specs.Prelude.{◌≤◌, length};
-
-use basics::store_u8;
 use std::io;
 
 // A byte of a text; a tab, an LF and a CR as they are written in a program.
@@ -20,8 +17,8 @@ fn print_byte(rt: &impl Print, byte: u8) -> io::Result<()> {
 }
 
 fn print_text(rt: &impl Print, text: &[u8]) -> io::Result<()> {
-    for i in 0..text.len() {
-        print_byte(rt, text[i])?;
+    for byte in text {
+        print_byte(rt, *byte)?;
     }
     Ok(())
 }
@@ -48,28 +45,10 @@ fn script_case(rt: &(impl Print + Eprint), judged: bool, text: &[u8]) -> io::Res
     Ok(())
 }
 
-// Where the text that starts at a place ends.
-fn end_of(texts: &[u8], from: usize) -> usize
-    requires { from ≤ length texts.now }
-    ensures { (from ≤ result) × (result ≤ length texts.now) }
-{
-    let mut i = from;
-    while i < texts.len() {
-        if texts[i] == b';' {
-            return i;
-        }
-        i += 1;
-    }
-    i
-}
-
-// Texts, each ended by a semicolon.
+// Texts, parted by semicolons.
 fn text_cases(rt: &(impl Print + Eprint), judged: bool, texts: &[u8]) -> io::Result<()> {
-    let mut at = 0;
-    while at < texts.len() {
-        let end = end_of(texts, at);
-        script_case(rt, judged, &texts[at..end])?;
-        at = end + 1;
+    for text in texts.split(|byte| *byte == b';') {
+        script_case(rt, judged, text)?;
     }
     Ok(())
 }
@@ -92,7 +71,7 @@ fn worked_cases(rt: &(impl Print + Eprint), judged: bool) -> io::Result<()> {
         G\t4\t4\t1\t1\ta\ts\nB\t7\nP\t0\t00\nS\nN\nB\t8\nP\t1\t00\nS\nN\n;\
         G\t4\t4\t1\t1\ta\tc\nB\t7\nP\t0\t00\nS\nN\nB\t8\nP\t1\t00\nS\nN\n;\
         G\t4\t4\t1\t1\tr\ts\nB\t0\nP\t0\t00\nB\t4294967295\nP\t1\t00\nS\n;\
-        G\t4\t4\t1\t1\tr\tc\nB\t0\nP\t0\t00\nB\t4294967295\nP\t1\t00\nS\n;",
+        G\t4\t4\t1\t1\tr\tc\nB\t0\nP\t0\t00\nB\t4294967295\nP\t1\t00\nS\n",
     )
 }
 
@@ -120,7 +99,7 @@ fn empty_cases(rt: &(impl Print + Eprint), judged: bool) -> io::Result<()> {
         G\t4\t4\t1\t1\ta\ts\nM\t1\t5\t2\nM\t2\t2\t5\nN\n;\
         G\t4\t4\t1\t1\ta\tc\nB\t1\nM\t2\t3\t4\nB\t3\n;\
         G\t4\t4\t1\t1\tr\ts\nP\t0\t\n;\
-        G\t4\t4\t1\t1\tr\tc\nE\t0\t0\n;",
+        G\t4\t4\t1\t1\tr\tc\nE\t0\t0\n",
     )
 }
 
@@ -150,7 +129,7 @@ fn unit_cases(rt: &(impl Print + Eprint), judged: bool) -> io::Result<()> {
         G\t8\t8\t8\t8\tr\tc\nB\t1\nP\t0\t0000ffff00000000\nN\nS\n;\
         G\t8\t4\t4\t4\tr\tc\nB\t1\nP\t0\t00000000ffffffff\nS\n;\
         G\t8\t4\t2\t1\ta\ts\nB\t9\nP\t2\t123456789abc\nS\nN\n;\
-        G\t8\t4\t2\t1\tr\ts\nB\t9\nP\t2\t123456789abc\nS\nN\n;",
+        G\t8\t4\t2\t1\tr\ts\nB\t9\nP\t2\t123456789abc\nS\nN\n",
     )
 }
 
@@ -177,7 +156,7 @@ fn again_cases(rt: &(impl Print + Eprint), judged: bool) -> io::Result<()> {
         G\t4\t4\t1\t1\tr\ts\nB\t1\nP\t0\t00\nE\t0\t4\nP\t0\tff\nS\n;\
         G\t4\t4\t1\t1\tr\tc\nB\t1\nP\t0\t00\nN\nE\t0\t4\nB\t2\nP\t0\t01\nS\n;\
         G\t4\t4\t1\t1\tr\tc\nB\t1\nP\t0\t00ff\nS\nN\nB\t2\nP\t0\t00fe\nS\nN\n;\
-        G\t4\t2\t2\t2\ta\tc\nB\t1\nP\t0\t00ff\nB\t2\nP\t0\tff00\nB\t3\nP\t0\t0000\nS\n;",
+        G\t4\t2\t2\t2\ta\tc\nB\t1\nP\t0\t00ff\nB\t2\nP\t0\tff00\nB\t3\nP\t0\t0000\nS\n",
     )
 }
 
@@ -202,7 +181,7 @@ fn erase_cases(rt: &(impl Print + Eprint), judged: bool) -> io::Result<()> {
         G\t8\t4\t2\t1\tr\tc\nB\t1\nP\t0\t0000\nN\nE\t0\t8\nB\t2\nP\t0\t0102\nS\nN\n;\
         G\t16\t8\t4\t4\ta\ts\nB\t1\nE\t0\t16\nS\nN\n;\
         G\t12\t4\t2\t1\ta\tc\nP\t4\t0000\nB\t1\nE\t0\t12\nS\n;\
-        G\t16384\t4096\t4096\t4096\ta\ts\nB\t1\nE\t0\t16384\nS\n;",
+        G\t16384\t4096\t4096\t4096\ta\ts\nB\t1\nE\t0\t16384\nS\n",
     )
 }
 
@@ -221,7 +200,7 @@ fn barrier_cases(rt: &(impl Print + Eprint), judged: bool) -> io::Result<()> {
         G\t4\t4\t1\t1\ta\tc\nB\t1\nP\t0\t00\nB\t2\nS\nB\t3\nP\t1\t00\nS\n;\
         G\t4\t4\t1\t1\ta\tc\nB\t1\nP\t0\t00\nS\nP\t1\t00\nN\nS\n;\
         G\t4\t4\t1\t1\ta\tc\nB\t1\nP\t0\t00\nS\nP\t1\t\nS\n;\
-        G\t4\t4\t1\t1\ta\tc\nB\t1\nP\t0\t00\nS\nE\t0\t0\n;",
+        G\t4\t4\t1\t1\ta\tc\nB\t1\nP\t0\t00\nS\nE\t0\t0\n",
     )
 }
 
@@ -262,7 +241,7 @@ fn range_cases(rt: &(impl Print + Eprint), judged: bool) -> io::Result<()> {
         G\t4\t4\t1\t1\ta\ts\nS\nM\t1\t0\t0\n;\
         G\t4\t4\t1\t1\ta\ts\nS\nM\t1\t1\t0\nS\n;\
         G\t4\t4\t1\t1\ta\ts\nP\t4\t\nM\t1\t0\t1\n;\
-        G\t4\t4\t1\t1\ta\ts\nB\t1\nP\t0\t00\nS\nN\nM\t9\t4294967295\t0\n;",
+        G\t4\t4\t1\t1\ta\ts\nB\t1\nP\t0\t00\nS\nN\nM\t9\t4294967295\t0\n",
     )
 }
 
@@ -298,7 +277,7 @@ fn refused_cases(rt: &(impl Print + Eprint), judged: bool) -> io::Result<()> {
         G\t4\t4\t1\t1\ta\tc\nB\t1\nP\t0\t00\nP\t9\t00\nS\nN\nB\t2\nE\t1\t1\nS\n;\
         G\t4\t4\t1\t1\tr\tc\nB\t1\nP\t0\t00\nP\t0\t80\nS\nN\nB\t2\nP\t0\t80\nS\n;\
         G\t4\t4\t1\t1\ta\ts\nS\nS\nS\nP\t9\t00\nS\n;\
-        G\t8\t4\t2\t1\tr\tc\nB\t1\nP\t0\t0000\nP\t1\t00\nP\t0\t00\nP\t8\t0000\nP\t0\tffff\nS\nN\n;",
+        G\t8\t4\t2\t1\tr\tc\nB\t1\nP\t0\t0000\nP\t1\t00\nP\t0\t00\nP\t8\t0000\nP\t0\tffff\nS\nN\n",
     )
 }
 
@@ -319,7 +298,7 @@ fn history_cases(rt: &(impl Print + Eprint), judged: bool) -> io::Result<()> {
         G\t4\t2\t2\t1\ta\tc\nB\t1\nP\t0\t0000\nS\nN\nB\t2\nP\t2\t0000\nS\nN\n;\
         G\t4\t2\t1\t1\ta\tc\nP\t0\t00000000\nB\t1\nE\t0\t4\nB\t2\nP\t0\t0f\nS\n;\
         G\t4\t4\t1\t1\ta\tc\nP\t0\t0000\nP\t2\t00\nS\nM\t2\t1\t2\nM\t1\t0\t1\nM\t3\t1\t2\n;\
-        G\t4\t4\t1\t1\ta\tc\nB\t4294967295\nP\t0\t0000\nB\t4294967294\nP\t2\t00\nB\t0\nP\t3\t00\nS\n;",
+        G\t4\t4\t1\t1\ta\tc\nB\t4294967295\nP\t0\t0000\nB\t4294967294\nP\t2\t00\nB\t0\nP\t3\t00\nS\n",
     )
 }
 
@@ -340,7 +319,7 @@ fn head_cases(rt: &(impl Print + Eprint), judged: bool) -> io::Result<()> {
         g\t4\t4\t1\t1\ta\ts\n;\
         G\t4\t4\t1\t01\ta\ts\n;\
         G\t4\t4\t1\t\ta\ts\n;\
-        G\t4294967296\t4\t1\t1\ta\ts\n;",
+        G\t4294967296\t4\t1\t1\ta\ts\n",
     )
 }
 
@@ -372,7 +351,7 @@ fn geometry_cases(rt: &(impl Print + Eprint), judged: bool) -> io::Result<()> {
         G\t3\t3\t1\t1\ta\ts\nx\n;\
         G\t2\t4\t1\t1\ta\ts\nx\n;\
         G\t16388\t4\t4\t4\ta\ts\nx\n;\
-        \tG\t4\t4\t1\t1\ta\ts\n;",
+        \tG\t4\t4\t1\t1\ta\ts\n",
     )
 }
 
@@ -408,7 +387,7 @@ fn line_cases(rt: &(impl Print + Eprint), judged: bool) -> io::Result<()> {
         G\t4\t4\t1\t1\ta\ts\nM\t1\t2\t\n;\
         G\t4\t4\t1\t1\ta\ts\nM\t\t2\t3\n;\
         G\t4\t4\t1\t1\ta\ts\nS\nS\nM\t1\t00\t3\n;\
-        G\t4\t4\t1\t1\ta\ts\nM\t1\t2\t4294967296\n;",
+        G\t4\t4\t1\t1\ta\ts\nM\t1\t2\t4294967296\n",
     )
 }
 
@@ -437,7 +416,7 @@ fn field_cases(rt: &(impl Print + Eprint), judged: bool) -> io::Result<()> {
         G\t4\t4\t1\t1\ta\ts\nP\t0\t00;\
         G\t4\t4\t1\t1\ta\ts\np\t0\t00\n;\
         G\t4\t4\t1\t1\ta\ts\nP\t9\t00\nx\n;\
-        G\t4\t4\t1\t1\ta\ts\nB\t1\nP\t0\t00\nS\nN\nB\t2\nP\t1\t00\nS\nN\nx\n;",
+        G\t4\t4\t1\t1\ta\ts\nB\t1\nP\t0\t00\nS\nN\nB\t2\nP\t1\t00\nS\nN\nx\n",
     )
 }
 
@@ -467,7 +446,7 @@ fn drawn_cases(rt: &(impl Print + Eprint), judged: bool) -> io::Result<()> {
         G\t1\t1\t1\t1\tr\tc\nP\t0\t9d15\nP\t0\t\nP\t0\t9d15\nE\t1\t0\nB\t1\nS\nE\t0\t1\nM\t2\t6\t3\nB\t1252395218\nS\nS\nB\t4\nB\t5\nE\t0\t1\nM\t6\t2\t0\nM\t7\t10\t11\n;\
         G\t320\t64\t4\t1\tr\tc\nM\t1\t2\t1\nS\nN\nN\nN\nM\t2\t3\t2\nN\nP\t4294967292\td2ae6ad3e43f4776cef51cc93a6597ff\nP\t4294967292\td2ae6ad3e43f4776cef51cc93a6597ff\nE\t128\t192\nM\t3\t5\t4\nP\t4294967292\td2ae6ad3e43f4776cef51cc93a6597ff\n;\
         G\t1\t1\t1\t1\tr\tc\nB\t1\nP\t1\t\nP\t0\t\nP\t0\t\nS\nN\nB\t2\nP\t0\t5525ffff\nP\t0\t\nS\nB\t3\nP\t0\t\nP\t0\t00\nN\n;\
-        G\t2\t1\t1\t1\ta\ts\nB\t4294967196\nP\t0\t00\nP\t0\t00ff\nP\t0\t00ff\nS\nN\n;",
+        G\t2\t1\t1\t1\ta\ts\nB\t4294967196\nP\t0\t00\nP\t0\t00ff\nP\t0\t00ff\nS\nN\n",
     )
 }
 
@@ -497,14 +476,14 @@ fn more_drawn_cases(rt: &(impl Print + Eprint), judged: bool) -> io::Result<()> 
         G\t3\t1\t1\t1\ta\ts\nB\t3588250915\nP\t2\t7b\nP\t0\t19\nS\nB\t2\nP\t1\t76ff\nP\t0\t0ff0\nS\nN\n;\
         G\t12\t4\t4\t1\tr\ts\nN\nE\t0\t0\nE\t8\t4\nP\t4\t5f7a841785e7e1ff\nS\n;\
         G\t1024\t1024\t128\t8\tr\ts\nP\t0\t\nP\t512\t\nP\t512\t\nP\t512\t\nP\t512\t\nP\t896\t\nE\t0\t0\nP\t896\t\nP\t896\t\nP\t896\t\nB\t4294967196\nB\t4294967197\nB\t4294967198\nP\t512\t\nB\t4294967199\nP\t896\t\nP\t128\t\nP\t256\t\nS\n;\
-        G\t16\t8\t8\t4\tr\ts\nM\t1\t0\t2764\nP\t8\t\nP\t8\t0f000ffff0ffffff\nN\nS\nS\nM\t0\t4\t6\nM\t3\t6\t4\n;",
+        G\t16\t8\t8\t4\tr\ts\nM\t1\t0\t2764\nP\t8\t\nP\t8\t0f000ffff0ffffff\nN\nS\nS\nM\t0\t4\t6\nM\t3\t6\t4\n",
     )
 }
 
 // Puts a text over the front of another.
 fn put(text: &mut [u8], front: &[u8]) {
-    for i in 0..front.len() {
-        store_u8(text, i, front[i]);
+    for (cell, byte) in text.iter_mut().zip(front) {
+        *cell = *byte;
     }
 }
 
@@ -515,8 +494,8 @@ fn letter_at(letter: u8, i: usize) -> u8 {
 
 // Fills a text with lines of one letter.
 fn fill(text: &mut [u8], letter: u8) {
-    for i in 0..text.len() {
-        store_u8(text, i, letter_at(letter, i));
+    for (i, cell) in text.iter_mut().enumerate() {
+        *cell = letter_at(letter, i);
     }
 }
 

@@ -1,19 +1,18 @@
 -- The operations from a mark to the next, cut to those that there are.
---     min-lt, min-le, higher-lt, higher-le
+--     min-lt, min-le, higher-lt, higher-le, higher-max
 --     clipped     the same elements, and the same behind them
 -- Assumes nothing.
 use mathlib.Core.Path.{◌≡◌, refl, sym, ap, ◌∙◌}
 use mathlib.Core.Logic.{⊎_elim}
 use mathlib.Core.List.{List, []}
-use Rattle.records.specs.declared.Span.{Span}
-use Prim.Native.Nat.{ℕ, ◌-◌, ◌≤◌, ◌<◌, min}
+use Prim.Native.Nat.{ℕ, ◌-◌, ◌≤◌, ◌<◌, min, max}
 use native.Mathlib.Nat.{le_refl}
 use native.Mathlib.Omega.{arith}
 use lib.ListN.{length, take, drop, length-drop, drop_of_length-le}
 use lib.Seq.{take_all, take-nil, drop-nil}
 use borrow.Author.Tests.{lt-ltb, le-ltb}
 use Rattle.basics.proofs.Tests.{le-or-gt}
-use Rattle.records.specs.Columns.{higher, span_of}
+use Rattle.records.specs.Columns.{higher}
 
 module _ (a b : ℕ) where
   pub min-lt : a < b → min a b ≡ a
@@ -30,17 +29,9 @@ module _ (a b : ℕ) where
   unfolding higher
   higher-le h = rw (le-ltb a b h)
 
--- the two ways to cut a span
-module _ (n from to start stop : ℕ) (e : start ≡ min from n) (f : stop ≡ min to n) where
-  pub span-some : start < stop → ◌≡◌ {A = Span} (record { start = start; stop = stop }) (span_of n from to)
-  span-some h =
-      let g : stop ≡ higher (min from n) (min to n) = sym (rw (← e, ← f) (higher-lt start stop h)) in
-      (λ i. record { start = e i; stop = g i })
-
-  pub span_none : stop ≤ start → ◌≡◌ {A = Span} (record { start = start; stop = start }) (span_of n from to)
-  span_none h =
-      let g : start ≡ higher (min from n) (min to n) = sym (rw (← e, ← f) (higher-le start stop h)) in
-      (λ i. record { start = e i; stop = g i })
+  -- as the library has it
+  pub higher-max : max b a ≡ higher a b
+  higher-max = ⊎_elim (λ (h : b ≤ a). let z : max b a ≡ a = omega arith in z ∙ sym (higher-le h)) (λ (h : a < b). let z : max b a ≡ b = omega arith in z ∙ sym (higher-lt h)) (le-or-gt b a)
 
 -- a record's operations counted from its mark, and cut to those that there are
 pub record Clipped {A : Type 0} (l : List A) (from to start stop : ℕ) : Type 0 where

@@ -2,7 +2,7 @@
 --     entry-codes               the two codes are the rule's
 --     entry-id, entry-same      the id is the mark's, and state and torn do not depend on it
 -- Assumes nothing.
-use mathlib.Core.Path.{◌≡◌, refl, sym, ap, ap₂, ◌∙◌}
+use mathlib.Core.Path.{◌≡◌, refl, sym, ap, ◌∙◌}
 use mathlib.Core.Bool.{Bool, true, false, ◌&&◌}
 use mathlib.Core.List.{List}
 use Prim.Native.Nat.{ℕ, ◌-◌, min}
@@ -11,11 +11,9 @@ use Rattle.basics.specs.Tests.{flag}
 use Rattle.model.specs.Ledger.{code_of}
 use Rattle.model.specs.declared.Durability.{Durability}
 use Rattle.records.specs.declared.Facts.{Facts}
-use Rattle.records.specs.declared.Scanned.{Scanned}
-use Rattle.records.specs.declared.Span.{Span}
 use Rattle.records.specs.declared.Codes.{Codes}
-use Rattle.records.specs.Records.{judged}
-use Rattle.records.specs.Columns.{span_of, armed_in, scanned_of, followed_at, entry_in, entry_at, codes_of}
+use Rattle.records.specs.Records.{any, judged}
+use Rattle.records.specs.Columns.{last_place, is_one, is_write, higher, armed_in, followed_at, entry_in, entry_at, codes_of}
 
 judged-id : (id : ℕ) (a b c : Bool) → (judged id a b c).id ≡ id
 unfolding judged
@@ -40,19 +38,22 @@ judged-torn true false true = refl
 judged-torn true false false = refl
 
 module _ (f : Facts) (ks cs : List ℕ) (from to : ℕ) where
-  pub entry-codes : (n : ℕ) → n ≡ min (length ks) (length cs) → (s : Span) → s ≡ span_of n from to → (within : Bool) → within ≡ armed_in f.armed s.start s.stop
-      → (own : Scanned) → own ≡ scanned_of (take (s.stop - s.start) (drop s.start ks)) (take (s.stop - s.start) (drop s.start cs))
-      → (state : Durability) → state ≡ (judged 0 own.changed (f.outstanding && within) (followed_at s.start own.written f.barrier)).state
-      → (code torn : ℕ) → code ≡ code_of state → torn ≡ flag (own.changed && (f.outstanding && within))
+  -- b: whether a cell of its own changed, written: one past its last program or erase
+  pub entry-codes : (start stop : ℕ) → start ≡ min from (min (length ks) (length cs)) → stop ≡ higher start (min to (min (length ks) (length cs)))
+      → (within : Bool) → within ≡ armed_in f.armed start stop
+      → (b : Bool) → b ≡ any is_one (take (stop - start) (drop start cs)) → (written : ℕ) → written ≡ last_place is_write (take (stop - start) (drop start ks))
+      → (state : Durability) → state ≡ (judged 0 b (f.outstanding && within) (followed_at start written f.barrier)).state
+      → (code torn : ℕ) → code ≡ code_of state → torn ≡ flag (b && (f.outstanding && within))
       → ◌≡◌ {A = Codes} (record { state = code; torn = torn }) (codes_of (entry_at f ks cs 0 from to))
   unfolding entry_in
-  entry-codes n m s e within w own o state q code torn x y =
-      let j = judged 0 own.changed (f.outstanding && within) (followed_at s.start own.written f.barrier) in
+  entry-codes start stop e g within w b o written l state q code torn x y =
+      let j = judged 0 b (f.outstanding && within) (followed_at start written f.barrier) in
       let one : code ≡ code_of j.state = x ∙ ap code_of q in
-      let two : torn ≡ flag j.mark = y ∙ ap flag (sym (judged-torn own.changed (f.outstanding && within) (followed_at s.start own.written f.barrier))) in
+      let two : torn ≡ flag j.mark = y ∙ ap flag (sym (judged-torn b (f.outstanding && within) (followed_at start written f.barrier))) in
       (λ i. record { state = one i; torn = two i })
-      ∙ ap₂ (λ (n : Bool) (z : Scanned). codes_of (judged 0 z.changed (f.outstanding && n) (followed_at s.start z.written f.barrier))) w o
-      ∙ ap (λ (z : Span). codes_of (entry_in f ks cs 0 z.start z.stop)) (e ∙ ap (λ (k : ℕ). span_of k from to) m)
+      ∙ (λ i. codes_of (judged 0 (o i) (f.outstanding && w i) (followed_at start (l i) f.barrier)))
+      ∙ ap (λ (k : ℕ). codes_of (entry_in f ks cs 0 start k)) g
+      ∙ ap (λ (k : ℕ). codes_of (entry_in f ks cs 0 k (higher k (min to (min (length ks) (length cs)))))) e
 
   pub entry-id : (id : ℕ) → (entry_at f ks cs id from to).id ≡ id
   unfolding entry_in

@@ -1,13 +1,10 @@
 -- A record whose operations are rows of columns: where it starts and stops, what its own rows say, and its entry by the rule of
 -- Records. Rows are counted as far as every column goes. Definitions only; assumes nothing.
-use Rattle.std.specs.Prelude.{Bool, false, not, ◌&&◌, cond, List, [], ◌∷◌, ℕ, suc, ◌+◌, ◌-◌, min, length, take, drop, eqb, leb, ltb}
+use Rattle.std.specs.Prelude.{Bool, false, not, ◌&&◌, cond, List, [], ◌∷◌, ℕ, suc, ◌+◌, ◌-◌, Option, None, Some, min, length, take, drop, eqb, leb, ltb}
 use Rattle.basics.specs.Tests.{flag}
 use Rattle.model.specs.Ledger.{Entry, code_of}
-use Rattle.session.specs.declared.Armed.{Armed}
-use Rattle.session.specs.declared.Armed.TheVariants.{Nothing, At}
+use Rattle.inject.specs.declared.Injection.{Injection}
 use Rattle.records.specs.declared.Facts.{Facts}
-use Rattle.records.specs.declared.Scanned.{Scanned}
-use Rattle.records.specs.declared.Span.{Span}
 use Rattle.records.specs.declared.Codes.{Codes}
 use Rattle.records.specs.Records.{any, judged}
 
@@ -43,18 +40,10 @@ last_barrier ks xs = last_place yes (ordering ks xs)
 unfoldable pub higher : ℕ → ℕ → ℕ
 higher a b = cond (ltb a b) b a
 
--- the operations of a record, of n in all
-abbrev pub span_of : (n from to : ℕ) → Span
-span_of n from to = record { start = min from n; stop = higher (min from n) (min to n) }
-
 -- whether the operation that the injection is armed on is among those from start to stop
-abbrev pub armed_in : Armed → (start stop : ℕ) → Bool
-armed_in Nothing start stop = false
-armed_in (At j) start stop = leb start j.op && ltb j.op stop
-
--- whether one of a record's operations changed a cell, and one past the last program or erase
-abbrev pub scanned_of : (kinds changed : List ℕ) → Scanned
-scanned_of ks cs = record { changed = any is_one cs; written = last_place is_write ks }
+abbrev pub armed_in : Option Injection → (start stop : ℕ) → Bool
+armed_in None start stop = false
+armed_in (Some j) start stop = leb start j.op && ltb j.op stop
 
 -- whether the last barrier that answered 0 stands behind a record's last program or erase: `written` is one past that one, counted from
 -- the record's start, 0 where there is none, and `barrier` one past the barrier
@@ -69,7 +58,7 @@ entry_in f ks cs id start stop =
 
 -- a record whose mark stands at `from`, the next one at `to`, of n operations
 abbrev pub entry_among : (n : ℕ) → Facts → (kinds changed : List ℕ) → (id from to : ℕ) → Entry
-entry_among n f ks cs id from to = entry_in f ks cs id (span_of n from to).start (span_of n from to).stop
+entry_among n f ks cs id from to = entry_in f ks cs id (min from n) (higher (min from n) (min to n))
 
 abbrev pub entry_at : Facts → (kinds changed : List ℕ) → (id from to : ℕ) → Entry
 entry_at f ks cs id from to = entry_among (min (length ks) (length cs)) f ks cs id from to

@@ -5,39 +5,24 @@
 #![tactic(auto)]
 
 ghost use Rattle.std.specs.Prelude.{◌≡◌, ◌≤◌, length};
-ghost use Rattle.model.specs.Ledger.{code_of};
+ghost use Rattle.std.specs.List.{IsAfterLastMatch};
 ghost use Rattle.records.specs.Records.{judged};
-ghost use Rattle.records.specs.Columns.{last_barrier, span_of, armed_in, scanned_of, entry_at, codes_of};
+ghost use Rattle.records.specs.Columns.{is_write, last_place, last_barrier, armed_in, entry_at, codes_of};
 
-use basics::lower;
+use inject::Injection;
 use model::Durability;
-use session::Armed;
 
 // What every record's state is judged by: what is armed, whether the bytes that it withheld are still not on media, and one past
 // the last barrier that answered 0.
-#[derive(Clone, Copy)]
+#[derive(Clone, Copy, Debug, PartialEq, Eq)]
 pub struct Facts {
-    pub armed: Armed,
+    pub armed: Option<Injection>,
     pub outstanding: bool,
     pub barrier: usize,
 }
 
-// A record's operations: the first, and one past the last.
-#[derive(Clone, Copy)]
-struct Span {
-    start: usize,
-    stop: usize,
-}
-
-// What a record's own operations say: whether a cell changed, and one past the last program or erase, 0 where there is none.
-#[derive(Clone, Copy)]
-struct Scanned {
-    changed: bool,
-    written: usize,
-}
-
 // State and torn as the columns hold them.
-#[derive(Clone, Copy)]
+#[derive(Clone, Copy, Debug, PartialEq, Eq)]
 pub struct Codes {
     pub state: u8,
     pub torn: u8,
@@ -45,74 +30,42 @@ pub struct Codes {
 
 // ---- what is found once
 
-// One past the last barrier that answered 0.
+// One past the last barrier that answered 0. A loop from the front: of two columns read together from their ends the library promises
+// nothing (`rposition` of a `zip`).
 pub fn last_barrier(kinds: &[u8], answered: &[u8]) -> usize
     ensures { result ≡ last_barrier kinds.now answered.now }
 {
-    let rows = lower(kinds.len(), answered.len());
-    let mut last: usize = 0;
-    let mut i = 0;
-    while i < rows {
-        if (kinds[i] == 2) & (answered[i] == 1) {
-            last = i + 1;
+    let mut last = 0;
+    for (at, (kind, answered)) in kinds.iter().zip(answered).enumerate() {
+        if (*kind == 2) & (*answered == 1) {
+            last = at + 1;
         }
-        i += 1;
     }
     last
 }
 
 // ---- one record
 
-// The operations from a mark to the next, of n in all. A next mark that stands earlier leaves none, and so does a mark that
-// stands past the operations.
-fn span_of(n: usize, from: usize, to: usize) -> Span
-    ensures { (result ≡ span_of n from to) × (result.start ≤ result.stop) × (result.stop ≤ n) }
-{
-    let start = lower(from, n);
-    let stop = lower(to, n);
-    if start < stop {
-        Span { start, stop }
-    } else {
-        Span { start, stop: start }
-    }
-}
-
 // Whether the operation that the injection is armed on is among these.
-fn armed_in(armed: Armed, start: usize, stop: usize) -> bool
+fn armed_in(armed: Option<Injection>, start: usize, stop: usize) -> bool
     ensures { result ≡ armed_in armed start stop }
 {
-    match armed {
-        Armed::Nothing => false,
-        Armed::At(injection) => {
-            let op = injection.op;
-            (start <= op) & (op < stop)
-        }
-    }
+    armed.is_some_and(|injection| (start <= injection.op) & (injection.op < stop))
 }
 
-// What a record's own operations say.
-fn scan(kinds: &[u8], changed: &[u8]) -> Scanned
-    requires { length changed.now ≡ length kinds.now }
-    ensures { (result ≡ scanned_of kinds.now changed.now) × (result.written ≤ length kinds.now) }
+// One past the last program or erase, 0 where there is none.
+fn past_last_write(kinds: &[u8]) -> usize
+    ensures { IsAfterLastMatch is_write kinds.now result × (result ≤ length kinds.now) }
 {
-    let mut any_changed = false;
-    let mut written: usize = 0;
-    let mut i = 0;
-    while i < kinds.len() {
-        any_changed = any_changed | (changed[i] == 1);
-        if kinds[i] != 2 {
-            written = i + 1;
-        }
-        i += 1;
-    }
-    Scanned {
-        changed: any_changed,
-        written,
+    match kinds.iter().rposition(|kind| *kind != 2) {
+        Some(at) => at + 1,
+        None => 0,
     }
 }
 
 // The state of a record: whether it changed a cell, whether some of it is withheld, and whether a barrier that answered 0 follows
 // its last program or erase. A record that changed no cell is attempted, withheld or not: this test comes first.
+#[tactic(auto, unfolding(crate::specs::Records::judged))]
 fn durability_of(changed: bool, withheld: bool, followed: bool) -> Durability
     ensures { result ≡ (judged 0 changed withheld followed).state }
 {
@@ -130,35 +83,22 @@ fn durability_of(changed: bool, withheld: bool, followed: bool) -> Durability
     }
 }
 
-// The code of a state.
-fn code_of(state: Durability) -> u8
-    ensures { result ≡ code_of state }
-{
-    match state {
-        Durability::Attempted => 0,
-        Durability::PossiblyDurable => 1,
-        Durability::Acknowledged => 2,
-    }
-}
-
-// State and torn of the record whose mark stands at `from`, the next one at `to`. A record none of whose bytes reached media is
-// not a torn one.
+// State and torn of the record whose mark stands at `from`, the next one at `to`. A next mark that stands earlier leaves it no
+// operations, and so does a mark that stands past them all. A record none of whose bytes reached media is not a torn one.
 pub fn entry_at(facts: Facts, kinds: &[u8], changed: &[u8], from: usize, to: usize) -> Codes
     ensures { result ≡ codes_of (entry_at facts kinds.now changed.now 0 from to) }
 {
-    let rows = lower(kinds.len(), changed.len());
-    let span = span_of(rows, from, to);
-    let start = span.start;
-    let stop = span.stop;
-    let armed = facts.armed;
-    let within = armed_in(armed, start, stop);
-    let withheld = facts.outstanding & within;
-    let own = scan(&kinds[start..stop], &changed[start..stop]);
+    let rows = kinds.len().min(changed.len());
+    let start = from.min(rows);
+    let stop = to.min(rows).max(start);
+    let withheld = facts.outstanding & armed_in(facts.armed, start, stop);
+    let own_changed = changed[start..stop].contains(&1);
+    let written = past_last_write(&kinds[start..stop]);
     // A record without a program or erase has no last one for a barrier to follow.
-    let followed = (own.written > 0) & (start + own.written < facts.barrier);
-    let state = durability_of(own.changed, withheld, followed);
+    let followed = (written > 0) & (start + written < facts.barrier);
+    let state = durability_of(own_changed, withheld, followed);
     Codes {
-        state: code_of(state),
-        torn: session::flag_of(own.changed & withheld),
+        state: state as u8,
+        torn: u8::from(own_changed & withheld),
     }
 }

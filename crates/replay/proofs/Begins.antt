@@ -11,14 +11,15 @@ use native.Mathlib.Omega.{arith}
 use lib.ListN.{length, take, length-append}
 use lib.Dec.{eqb, leb, ltb}
 use borrow.Author.Tests.{le-leb, lt-leb, lt-ltb, le-ltb}
+use Rattle.std.proofs.lemmas.Bool.{and_parts}
 use Rattle.basics.specs.Tests.{flag, unless}
 use Rattle.basics.proofs.Tests.{le-or-gt}
 use Rattle.storage.specs.declared.Geometry.{Geometry}
 use Rattle.model.specs.Ledger.{Entry, ids}
 use Rattle.model.specs.Columns.{all_up_to}
 use Rattle.session.specs.declared.Told.{Told}
-use Rattle.session.specs.declared.Armed.{Armed}
-use Rattle.session.specs.declared.Armed.TheVariants.{Nothing, At}
+use Rattle.session.specs.Armed.{Armed}
+use Rattle.std.specs.Prelude.{None as Nothing, Some as At}
 use Rattle.session.specs.Tests.{mark_test}
 use Rattle.records.specs.Records.{Label, begin, end, RecordMark}
 use Rattle.plain.specs.Plain.{Act, Call, act, mark, Op, Run, refusal, mark_refusal, wholly, taken_by, refused, step, run, unrun, plain}
@@ -134,17 +135,10 @@ codes-begins m (suc n) (k ∷ ks) (a ∷ xs) [] cs ss pool p q r o h = absurd (o
 codes-begins m (suc n) (k ∷ ks) (a ∷ xs) (b ∷ bs) [] ss pool p q r o h = absurd (omega arith)
 codes-begins m (suc n) (k ∷ ks) (a ∷ xs) (b ∷ bs) (c ∷ cs) [] pool p q r o h = absurd (omega arith)
 codes-begins m (suc n) (k ∷ ks) (a ∷ xs) (b ∷ bs) (c ∷ cs) (s ∷ ss) pool p q r o h =
-    one-begins m k a b c s pool (rows_in n ks xs bs cs ss pool) (and_left (leb k 4) (all_up_to 4 (take n ks)) h)
+    let two = and_parts (leb k 4) (all_up_to 4 (take n ks)) h in
+    one-begins m k a b c s pool (rows_in n ks xs bs cs ss pool) two.0
     ∙ ap (λ (i : ℕ). flag (takes m k && eqb k 3) + i)
-    (codes-begins (m + flag (takes m k)) n ks xs bs cs ss pool (omega arith) (omega arith) (omega arith) (omega arith) (and_right (leb k 4) (all_up_to 4 (take n ks)) h))
-  where
-    and_left : (x y : Bool) → (x && y) ≡ true → x ≡ true
-    and_left true y q = refl
-    and_left false y q = q
-
-    and_right : (x y : Bool) → (x && y) ≡ true → y ≡ true
-    and_right true y q = q
-    and_right false y q = absurd (true≢false (sym q))
+    (codes-begins (m + flag (takes m k)) n ks xs bs cs ss pool (omega arith) (omega arith) (omega arith) (omega arith) two.1)
 
 many-ids : (l : List Entry) → length l ≡ length (ids l)
 unfolding ids

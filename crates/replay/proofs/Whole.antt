@@ -19,15 +19,12 @@ use Rattle.device.proofs.Pairs.{false_left, false_right}
 use Rattle.model.specs.Columns.{all_up_to}
 use Rattle.session.specs.declared.Told.{Told}
 use Rattle.session.specs.declared.Counters.{Counters}
-use Rattle.session.specs.declared.Started.{Started}
-use Rattle.session.specs.declared.Started.TheVariants
-use Rattle.session.specs.declared.Started.TheVariants.{NotStarted}
+use Rattle.std.specs.Prelude.{Ok as Fresh, Err as NotStarted}
 use Rattle.session.specs.Log.{Log, Marks}
 use Rattle.session.specs.Tests.{start_number, start_test}
-use Rattle.session.specs.Start.{fresh, Opened, opened, started}
-use Rattle.ledger.specs.declared.Derived.{Derived}
-use Rattle.ledger.specs.declared.Derived.TheVariants.{Entries, NotDerived}
-use Rattle.ledger.specs.Ledger.{Entered, entered, ledgered, ledgered_by, ledger_call}
+use Rattle.session.specs.Start.{Started, fresh, Opened, opened, started}
+use Rattle.std.specs.Prelude.{Ok as Entries, Err as NotDerived}
+use Rattle.ledger.specs.Ledger.{Derived, Entered, entered, ledgered, ledgered_by, ledger_call}
 use Rattle.plain.specs.Plain.{Run}
 use Rattle.plain.specs.Ledger.{ledger}
 use Rattle.threaded.specs.Threaded.{Session, Threaded, threaded, session_ledgered}
@@ -121,13 +118,13 @@ module _ (t : Told) (rows : ℕ) (k : Columns) (x : Lent) where
       abbrev began : Opened
       began = started t x.media (length x.copy) x.log x.marks
 
-      module _ (z : Sized x.log x.marks) (reply : Started) (media₁ : List ℕ) (o : opened reply media₁ ≡ began) where
-        start_is : opened reply media₁ ≡ opened (TheVariants.Fresh fresh) (new_media (length x.media))
-        start_is = o ∙ (start-fresh t x.media x.copy x.log x.marks (start-passes z)).0
+      module _ (z : Sized x.log x.marks) where
+        opens : began ≡ opened (Fresh fresh) (new_media (length x.media))
+        opens = (start-fresh t x.media x.copy x.log x.marks (start-passes z)).0
 
-        pub never-refused : (n : ℕ) → reply ≡ NotStarted n → ⊥
-        never-refused n r =
-            let w : NotStarted n ≡ TheVariants.Fresh fresh = sym r ∙ ap (λ (y : Opened). y.reply) start_is in
+        pub never-refused : (n : ℕ) (media₁ : List ℕ) → opened (NotStarted n) media₁ ≡ began → ⊥
+        never-refused n media₁ o =
+            let w : ◌≡◌ {A = Started} (NotStarted n) (Fresh fresh) = ap (λ (y : Opened). y.reply) (o ∙ opens) in
             let v : ◌≡◌ {A = ℕ} 0 1 = cc in
             omega arith
 
@@ -155,13 +152,13 @@ module _ (t : Told) (rows : ℕ) (k : Columns) (x : Lent) where
         rows_are =
             ap (ran_rows t true (opening x)) (tasks-calls 4 rows k few known) ∙ listed t (opening x) (calls_in rows k) (no-range rows k known)
 
-        pub replay-runs : (fr : Counters) → reply ≡ TheVariants.Fresh fr → (r : Ended) (media₂ copy₂ answers₂ : List ℕ) (l₂ : Log) (m₂ : Marks)
+        pub replay-runs : (fr : Counters) (media₁ : List ℕ) → opened (Fresh fr) media₁ ≡ began → (r : Ended) (media₂ copy₂ answers₂ : List ℕ) (l₂ : Log) (m₂ : Marks)
             → left_of r answers₂ media₂ copy₂ l₂ m₂ ≡ leaves (ran_rows t true (session_of fr media₁ x.copy x.log x.marks) (tasks_in rows k)) x.answers
             → (d : Derived) (e₂ : Entered) → ledgered d e₂ ≡ ledger_call t r.counters media₂ copy₂ l₂ m₂ x.entries
             → replayed d (lent answers₂ media₂ copy₂ l₂ m₂ e₂) ≡ replay_call t rows k x
-        replay-runs fr r₀ r media₂ copy₂ answers₂ l₂ m₂ u d e₂ v =
-            let a : fr ≡ fresh = fresh-inside fr (sym r₀ ∙ ap (λ (y : Opened). y.reply) start_is) in
-            let b : media₁ ≡ new_media (length x.media) = ap (λ (y : Opened). y.media) start_is in
+        replay-runs fr media₁ o r media₂ copy₂ answers₂ l₂ m₂ u d e₂ v =
+            let a : fr ≡ fresh = fresh-inside fr (ap (λ (y : Opened). y.reply) (o ∙ opens)) in
+            let b : media₁ ≡ new_media (length x.media) = ap (λ (y : Opened). y.media) (o ∙ opens) in
             let s : left_of r answers₂ media₂ copy₂ l₂ m₂ ≡ leaves (carried_on all) x.answers =
             u ∙ (λ i. leaves (ran_rows t true (session_of (a i) (b i) x.copy x.log x.marks) (tasks_in rows k)) x.answers)
             ∙ ap (λ (w : Outcome). leaves w x.answers) rows_are in
@@ -176,5 +173,5 @@ module _ (t : Told) (rows : ℕ) (k : Columns) (x : Lent) where
             ∙ ap (λ (n : ℕ). ledgered_by n (ledger run) x.entries) entries-pass in
             (λ i. replayed (entries i).reply (lent (answers i) (media i) (last i).copy (last i).log (last i).marks (entries i).columns)) ∙ sym replay-is
           where
-            fresh-inside : (c : Counters) → TheVariants.Fresh c ≡ TheVariants.Fresh fresh → c ≡ fresh
+            fresh-inside : (c : Counters) → ◌≡◌ {A = Started} (Fresh c) (Fresh fresh) → c ≡ fresh
             fresh-inside c w = cc

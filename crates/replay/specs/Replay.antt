@@ -1,12 +1,10 @@
 -- Document 01, "Demand 3": what `replay` answers, and what it leaves: the plain run. Definitions only; assumes nothing.
-use Rattle.std.specs.Prelude.{Bool, ◌||◌, cond, List, ◌++◌, ℕ, length, drop, eqb, ltb}
+use Rattle.std.specs.Prelude.{Ok as Entries, Err as NotDerived, Bool, ◌||◌, cond, List, ◌++◌, ℕ, length, drop, eqb, ltb}
 use Rattle.device.specs.Media.{new_media}
 use Rattle.session.specs.declared.Told.{Told}
 use Rattle.session.specs.Log.{Log, Marks}
 use Rattle.session.specs.Start.{fresh}
-use Rattle.ledger.specs.declared.Derived.{Derived}
-use Rattle.ledger.specs.declared.Derived.TheVariants.{Entries, NotDerived}
-use Rattle.ledger.specs.Ledger.{Entered, entries_uneven, entered}
+use Rattle.ledger.specs.Ledger.{Derived, Entered, entries_uneven, entered}
 use Rattle.plain.specs.Plain.{Call, Run, plain}
 use Rattle.plain.specs.Ledger.{ledger}
 use Rattle.threaded.specs.Threaded.{Session, threaded}

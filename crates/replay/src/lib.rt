@@ -4,50 +4,44 @@
 #![tactic(auto)]
 
 ghost use Rattle.std.specs.Prelude.{◌≡◌, length};
-ghost use Rattle.session.specs.Log.{log_of, marks_of};
+ghost use Rattle.basics.specs.Replies.{numbered};
+ghost use Rattle.refusals.specs.Numbers.{number_of};
+ghost use Rattle.model.specs.Lent.{SameLedger};
+ghost use Rattle.ledger.specs.Ledger.{entered_in};
+ghost use Rattle.session.specs.Lent.{log_in, marks_in};
 ghost use Rattle.session.specs.Start.{opened, started};
-ghost use Rattle.ledger.specs.Ledger.{entered_of};
-ghost use Rattle.script.specs.Columns.{columns};
+ghost use Rattle.script.specs.Lent.{columns_seen};
+ghost use Rattle.session.specs.Log.{log_of, marks_of};
 ghost use Rattle.replay.specs.Replay.{lent, replayed, replay_call};
-ghost use Rattle.replay.specs.Sized.{Sized};
 
-use ledger::Derived;
+use model::LedgerMut;
+use refusals::Refusal;
 use rows::{begins_taken, rows_refusal};
-use session::{Started, Told};
+use script::CallsRef;
+use session::{Counters, LogMut, MarksMut, Told};
 
-// A start on arrays: so the log and the marks are of a session's limits.
+// A start on columns that the run writes to afterwards: they are lent to be read no longer than the start takes.
 fn start(
     told: Told,
     media: &mut [u8],
     copy: &[u8],
-    ops: &[u8; 1024],
-    spans: &[u32; 1024],
-    sizes: &[u32; 1024],
-    digests: &[u64; 1024],
-    changed: &[u8; 1024],
-    answered: &[u8; 1024],
-    marks: &[u8; 512],
-    named: &[u32; 512],
-    places: &[u64; 512],
-) -> Started
-    ensures { (opened result media.new ≡ started told media.old (length copy.now) (log_of ops.now spans.now sizes.now digests.now changed.now answered.now) (marks_of marks.now named.now places.now)) × Sized (log_of ops.now spans.now sizes.now digests.now changed.now answered.now) (marks_of marks.now named.now places.now) }
+    log: &LogMut<'_>,
+    marks: &MarksMut<'_>,
+) -> Result<Counters, Refusal>
+    ensures { opened (numbered number_of result) media.new ≡ started told media.old (length copy.now) (log_in log.now) (marks_in marks.now) }
 {
-    session_calls::start(
-        told, media, copy, ops, spans, sizes, digests, changed, answered, marks, named, places,
-    )
+    let logged = log.seen();
+    let marked = marks.seen();
+    session_calls::start(told, media, copy, &logged, &marked)
 }
 
 // Runs a list of calls through a session started on a new device. Leaves each call's answer, the media and the ledger: the plain
-// run's. The copy, the log and the marks are as the last call left them.
+// run's. The copy, the log and the marks are as the last call left them: arrays of a session's limits, so that no length of them
+// is left to test. (They are lent one by one: out of a lent struct the prover lends no two.)
 pub fn replay(
     told: Told,
     rows: usize,
-    kinds: &[u8],
-    firsts: &[u32],
-    seconds: &[u32],
-    thirds: &[u32],
-    starts: &[u32],
-    pool: &[u8],
+    calls: &CallsRef<'_>,
     answers: &mut [u32],
     media: &mut [u8],
     copy: &mut [u8],
@@ -60,48 +54,41 @@ pub fn replay(
     marks: &mut [u8; 512],
     named: &mut [u32; 512],
     places: &mut [u64; 512],
-    records: &mut [u32],
-    states: &mut [u8],
-    torn: &mut [u8],
-) -> Derived
-    ensures { replayed result (lent answers.new media.new copy.new (log_of ops.new spans.new sizes.new digests.new changed.new answered.new) (marks_of marks.new named.new places.new) (entered_of records.new states.new torn.new)) ≡ replay_call told rows (columns kinds.now firsts.now seconds.now thirds.now starts.now pool.now) (lent answers.old media.old copy.old (log_of ops.old spans.old sizes.old digests.old changed.old answered.old) (marks_of marks.old named.old places.old) (entered_of records.old states.old torn.old)) }
+    entries: &mut LedgerMut<'_>,
+) -> Result<usize, Refusal>
+    ensures same { SameLedger entries.old entries.new }
+    ensures left { replayed (numbered number_of result) (lent answers.new media.new copy.new (log_of ops.new spans.new sizes.new digests.new changed.new answered.new) (marks_of marks.new named.new places.new) (entered_in entries.new)) ≡ replay_call told rows (columns_seen calls.now) (lent answers.old media.old copy.old (log_of ops.old spans.old sizes.old digests.old changed.old answered.old) (marks_of marks.old named.old places.old) (entered_in entries.old)) }
 {
-    let entered = (states.len() != records.len()) | (torn.len() != records.len());
-    let begins = begins_taken(rows, kinds);
-    let short = (answers.len() < rows) | (records.len() < begins);
-    let geometry = told.geometry;
-    let refused = rows_refusal(
-        geometry,
+    let room = entries.ids.len();
+    let uneven = (entries.states.len() != room) | (entries.torn.len() != room);
+    let short = (answers.len() < rows) | (room < begins_taken(rows, calls.kinds));
+    rows_refusal(
+        told.geometry,
         media.len(),
         copy.len(),
-        entered,
+        uneven,
         short,
         4,
         rows,
-        kinds,
-        firsts,
-        seconds,
-        thirds,
-        starts,
-        pool,
-    );
-    if refused != 0 {
-        return Derived::NotDerived(refused);
-    }
-    let opened = start(
-        told, media, copy, ops, spans, sizes, digests, changed, answered, marks, named, places,
-    );
-    let Started::Fresh(fresh) = opened else {
-        // Never taken: what refuses was tested above.
-        return Derived::NotDerived(13);
+        calls,
+    )?;
+    let mut log = LogMut {
+        kinds: ops,
+        offsets: spans,
+        lens: sizes,
+        digests,
+        changed,
+        answered,
     };
-    let ended = runner::run_rows(
-        told, true, fresh, rows, kinds, firsts, seconds, thirds, starts, pool, answers, media,
-        copy, ops, spans, sizes, digests, changed, answered, marks, named, places,
+    let mut kept = MarksMut {
+        codes: marks,
+        ids: named,
+        places,
+    };
+    // Never refused: what could was tested above.
+    let fresh = start(told, media, copy, &log, &kept)?;
+    let (_, derived) = runner::run_ledgered(
+        told, true, fresh, rows, calls, answers, media, copy, &mut log, &mut kept, entries,
     );
-    let counters = ended.counters;
-    runner::derive(
-        told, counters, media, copy, ops, spans, sizes, digests, changed, answered, marks, named,
-        places, records, states, torn,
-    )
+    derived
 }

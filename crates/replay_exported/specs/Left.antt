@@ -1,7 +1,6 @@
 -- The layer `replay` with its answer as numbers. Definitions only; assumes nothing.
-use Rattle.std.specs.Prelude.{ℕ}
-use Rattle.ledger.specs.declared.Derived.{Derived}
-use Rattle.ledger.specs.declared.Derived.TheVariants.{Entries, NotDerived}
+use Rattle.std.specs.Prelude.{Ok as Entries, Err as NotDerived, ℕ}
+use Rattle.ledger.specs.Ledger.{Derived}
 use Rattle.replay.specs.Replay.{Lent, Replayed}
 
 -- the number, how many entries the ledger has, and all that is lent

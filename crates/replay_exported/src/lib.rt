@@ -11,7 +11,9 @@ ghost use Rattle.replay.specs.Replay.{lent, replay_call};
 ghost use Rattle.session_numbers.specs.Numbers.{told_of};
 ghost use Rattle.replay_exported.specs.Left.{replay_left, replayed_over};
 
-use ledger::Derived;
+use basics::Numbered;
+use model::LedgerMut;
+use script::CallsRef;
 
 // `replay`: the number that refuses it, how many entries the ledger has, and all that is lent; a refusal leaves all of it.
 #[unsafe(no_mangle)]
@@ -44,15 +46,42 @@ pub extern "C" fn replay_of_calls(
     ensures { replay_left result entries.new (lent answers.new media.new copy.new (log_of ops.new spans.new sizes.new digests.new changed.new answered.new) (marks_of marks.new named.new places.new) (entered_of records.new states.new torn.new)) ≡ replayed_over entries.old (replay_call (told_of told.now) rows (columns kinds.now firsts.now seconds.now thirds.now starts.now pool.now) (lent answers.old media.old copy.old (log_of ops.old spans.old sizes.old digests.old changed.old answered.old) (marks_of marks.old named.old places.old) (entered_of records.old states.old torn.old))) }
 {
     let given = session_numbers::told_of(told);
+    let calls = CallsRef {
+        kinds,
+        firsts,
+        seconds,
+        thirds,
+        starts,
+        pool,
+    };
+    let mut ledger = LedgerMut {
+        ids: records,
+        states,
+        torn,
+    };
     let derived = replay::replay(
-        given, rows, kinds, firsts, seconds, thirds, starts, pool, answers, media, copy, ops,
-        spans, sizes, digests, changed, answered, marks, named, places, records, states, torn,
+        given,
+        rows,
+        &calls,
+        answers,
+        media,
+        copy,
+        ops,
+        spans,
+        sizes,
+        digests,
+        changed,
+        answered,
+        marks,
+        named,
+        places,
+        &mut ledger,
     );
     match derived {
-        Derived::Entries(n) => {
+        Ok(n) => {
             *entries = n as u64;
             0
         }
-        Derived::NotDerived(number) => number,
+        Err(refusal) => refusal.number(),
     }
 }

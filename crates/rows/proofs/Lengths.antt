@@ -11,26 +11,27 @@ use Rattle.storage.specs.declared.Geometry.{Geometry}
 use Rattle.storage.specs.Geometry.{geometry_test}
 use Rattle.device.proofs.Pairs.{false_left, false_right}
 use Rattle.session.specs.Tests.{size_test}
-use Rattle.rows.specs.Rows.{five_uneven, lengths_number}
+use Rattle.script.specs.Columns.{five_uneven}
+use Rattle.rows.specs.Rows.{lengths_number}
 
 module _ (g : Geometry) (media copy : ℕ) (uneven : Bool) where
-  module _ (units sizes : ℕ) (u : units ≡ geometry_test g) where
-    pub length-units : (units ≡ 0 → ⊥) → units ≡ lengths_number g media copy uneven
+  pub length-units : (units : ℕ) → (units ≡ 0 → ⊥) → units ≡ geometry_test g → units ≡ lengths_number g media copy uneven
+  unfolding lengths_number
+  length-units units h u = u ∙ sym (first_of-stop (geometry_test g) _ (λ z. h (u ∙ z)))
+
+  module _ (none : 0 ≡ geometry_test g) where
+    pub length-sizes : (sizes : ℕ) → (sizes ≡ 0 → ⊥) → sizes ≡ size_test g media copy → sizes ≡ lengths_number g media copy uneven
     unfolding lengths_number
-    length-units h = u ∙ sym (first_of-stop (geometry_test g) _ (λ z. h (u ∙ z)))
+    length-sizes sizes h s = s ∙ sym (first_of-pass (geometry_test g) _ (sym none) ∙ first_of-stop (size_test g media copy) _ (λ z. h (s ∙ z)))
 
-    module _ (none : units ≡ 0) (s : sizes ≡ size_test g media copy) where
-      pub length-sizes : (sizes ≡ 0 → ⊥) → sizes ≡ lengths_number g media copy uneven
-      unfolding lengths_number
-      length-sizes h = s ∙ sym (first_of-pass (geometry_test g) _ (sym u ∙ none) ∙ first_of-stop (size_test g media copy) _ (λ z. h (s ∙ z)))
-
-      pub length-uneven : sizes ≡ 0 → uneven ≡ true → 12 ≡ lengths_number g media copy uneven
+    module _ (fit : 0 ≡ size_test g media copy) where
+      pub length-uneven : uneven ≡ true → 12 ≡ lengths_number g media copy uneven
       unfolding lengths_number refuse_if first_of
-      length-uneven z e = simp (sym u ∙ none, sym s ∙ z, e)
+      length-uneven e = simp (sym none, sym fit, e)
 
-      pub length-even : sizes ≡ 0 → uneven ≡ false → 0 ≡ lengths_number g media copy uneven
+      pub length-even : uneven ≡ false → 0 ≡ lengths_number g media copy uneven
       unfolding lengths_number refuse_if first_of
-      length-even z e = simp (sym u ∙ none, sym s ∙ z, e)
+      length-even e = simp (sym none, sym fit, e)
 
   -- what lengths that are not refused are
   pub record Passed : Type 0 where

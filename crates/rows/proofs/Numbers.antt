@@ -42,20 +42,20 @@ module _ (g : Geometry) (media copy : ℕ) (uneven short : Bool) (most rows : �
       }
 
   -- the two tests, as the function takes them
-  module _ (listed : Bool) (w : listed ≡ rows_uneven_of k) (lengths : ℕ) (e : lengths ≡ lengths_number g media copy (uneven || listed)) where
-    lengths-are : lengths ≡ lengths_number g media copy (uneven || rows_uneven_of k)
-    lengths-are = e ∙ ap (λ (b : Bool). lengths_number g media copy (uneven || b)) w
+  module _ (listed : Bool) (w : listed ≡ rows_uneven_of k) where
+    lengths-are : lengths_number g media copy (uneven || listed) ≡ lengths_number g media copy (uneven || rows_uneven_of k)
+    lengths-are = ap (λ (b : Bool). lengths_number g media copy (uneven || b)) w
 
-    pub lengths-refuse : (lengths ≡ 0 → ⊥) → lengths ≡ rows_number g media copy uneven short most rows k
+    pub lengths-refuse : (n : ℕ) → (n ≡ 0 → ⊥) → n ≡ lengths_number g media copy (uneven || listed) → n ≡ rows_number g media copy uneven short most rows k
     unfolding rows_number
-    lengths-refuse h = lengths-are ∙ sym (first_of-stop _ _ (λ z. h (lengths-are ∙ z)))
+    lengths-refuse n h e = e ∙ lengths-are ∙ sym (first_of-stop _ _ (λ z. h (e ∙ lengths-are ∙ z)))
 
-    pub lengths-pass : lengths ≡ 0 → Even
-    lengths-pass z = evens (sym lengths-are ∙ z)
+    pub lengths-pass : 0 ≡ lengths_number g media copy (uneven || listed) → Even
+    lengths-pass z = evens (sym (z ∙ lengths-are))
 
-    pub contents-tell : lengths ≡ 0 → (contents : ℕ) → contents ≡ contents_number most rows k short → contents ≡ rows_number g media copy uneven short most rows k
+    pub contents-tell : 0 ≡ lengths_number g media copy (uneven || listed) → (n : ℕ) → n ≡ contents_number most rows k short → n ≡ rows_number g media copy uneven short most rows k
     unfolding rows_number
-    contents-tell z contents f = f ∙ sym (first_of-pass _ _ (sym lengths-are ∙ z) ∙ first_of-one _)
+    contents-tell z n f = f ∙ sym (first_of-pass _ _ (sym (z ∙ lengths-are)) ∙ first_of-one _)
 
   -- rows that are not refused
   module _ (none : rows_number g media copy uneven short most rows k ≡ 0) where

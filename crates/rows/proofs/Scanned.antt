@@ -1,13 +1,13 @@
 -- What the scans over the rows find, a row at a time, and the numbers of the tests. Assumes nothing.
-use mathlib.Core.Path.{◌≡◌, sym, ap, ◌∙◌}
-use mathlib.Core.Bool.{Bool, true, false, not, ◌&&◌, ◌||◌}
+use mathlib.Core.Path.{◌≡◌, refl, sym, ap, ◌∙◌}
+use mathlib.Core.Bool.{Bool, true, false, ◌&&◌, ◌||◌}
 use mathlib.Core.List.{List}
 use Prim.Native.Nat.{ℕ, ◌+◌, ◌≤◌, ◌<◌, min}
 use native.Mathlib.Nat.{add_assoc}
 use native.Mathlib.Omega.{arith}
+use mir.Val.{bool_byte}
 use lib.ListN.{length, get_or, take, drop}
 use lib.Dec.{eqb, ltb}
-use borrow.Author.Tests.{not-true, not-false}
 use Rattle.basics.specs.Tests.{flag, unless, refuse_if, first_of}
 use Rattle.basics.proofs.Scans.{at-step, at-end}
 use Rattle.basics.proofs.Lists.{take-lower}
@@ -32,9 +32,21 @@ module _ (ks : List ℕ) (begins marks i : ℕ) (e : begins_from 0 ks ≡ begins
       plus_none : begins + 0 ≡ begins
       plus_none = omega arith
 
-pub flag-le : (b : Bool) (n : ℕ) → n ≡ flag b → n ≤ 1
-flag-le true n e = omega arith
-flag-le false n e = omega arith
+-- a flag as a number, told by the byte that it is
+module _ (b : Bool) (n : ℕ) (e : n ≡ bool_byte b) where
+  pub flag-is : n ≡ flag b
+  flag-is = e ∙ same b
+    where
+      same : (b : Bool) → bool_byte b ≡ flag b
+      same true = refl
+      same false = refl
+
+  pub flag-le : n ≤ 1
+  flag-le = rw e (small b)
+    where
+      small : (b : Bool) → bool_byte b ≤ 1
+      small true = omega arith
+      small false = omega arith
 
 -- ---- the numbers
 
@@ -43,11 +55,11 @@ module _ (most rows : ℕ) (k : Columns) (short : Bool) (n : ℕ) (m : n ≡ min
   known-are : known ≡ all_up_to most (take rows k.kinds)
   known-are = a ∙ ap (λ (j : ℕ). all_up_to most (take j k.kinds)) m ∙ ap (all_up_to most) (take-lower rows k.kinds)
 
-  pub content-unknown : not known ≡ true → 12 ≡ contents_number most rows k short
+  pub content-unknown : known ≡ false → 12 ≡ contents_number most rows k short
   unfolding contents_number first_of unless
-  content-unknown h = rw (← known-are, not-true known h)
+  content-unknown h = rw (← known-are, h)
 
-  module _ (all : not known ≡ false) (outside : Bool) (o : outside ≡ any_outside (length k.pool) (take n k.kinds) (take n k.seconds) (take n k.starts)) where
+  module _ (all : known ≡ true) (outside : Bool) (o : outside ≡ any_outside (length k.pool) (take n k.kinds) (take n k.seconds) (take n k.starts)) where
     outside-is : outside ≡ any_outside (length k.pool) (take rows k.kinds) (take rows k.seconds) (take rows k.starts)
     outside-is =
         let s : take n k.seconds ≡ take rows k.seconds = ap (λ (j : ℕ). take j k.seconds) (m ∙ ap (min rows) (sym es)) ∙ take-lower rows k.seconds in
@@ -57,8 +69,8 @@ module _ (most rows : ℕ) (k : Columns) (short : Bool) (n : ℕ) (m : n ≡ min
 
     pub content-short : (short || ltb (length k.kinds) rows || outside) ≡ true → 13 ≡ contents_number most rows k short
     unfolding contents_number first_of refuse_if unless
-    content-short h = rw (← known-are, not-false known all, ← outside-is, h)
+    content-short h = rw (← known-are, all, ← outside-is, h)
 
     pub content-fits : (short || ltb (length k.kinds) rows || outside) ≡ false → 0 ≡ contents_number most rows k short
     unfolding contents_number first_of refuse_if unless
-    content-fits h = rw (← known-are, not-false known all, ← outside-is, h)
+    content-fits h = rw (← known-are, all, ← outside-is, h)

@@ -1,18 +1,15 @@
 -- Document 01, "Numbers from the input": what is tested of a table's rows before they are run. Definitions only; assumes nothing.
-use Rattle.std.specs.Prelude.{Bool, false, not, ◌&&◌, ◌||◌, List, [], ◌∷◌, ℕ, ◌+◌, length, take, eqb, leb, ltb}
+use Rattle.std.specs.Prelude.{Bool, false, ◌&&◌, ◌||◌, List, [], ◌∷◌, ℕ, ◌+◌, length, take, eqb, leb, ltb}
 use Rattle.basics.specs.Tests.{flag, unless, refuse_if, first_of}
 use Rattle.storage.specs.declared.Geometry.{Geometry}
 use Rattle.storage.specs.Geometry.{geometry_test}
 use Rattle.model.specs.Columns.{all_up_to}
 use Rattle.session.specs.Tests.{size_test}
-use Rattle.script.specs.Columns.{Columns}
+use Rattle.script.specs.Columns.{Columns, uneven_of}
 
--- "columns of one list unequal", over their lengths
-abbrev pub five_uneven : (kinds firsts seconds thirds starts : ℕ) → Bool
-five_uneven k a b c s = not (eqb a k) || not (eqb b k) || not (eqb c k) || not (eqb s k)
-
+-- "columns of one list unequal"
 abbrev pub rows_uneven_of : Columns → Bool
-rows_uneven_of k = five_uneven (length k.kinds) (length k.firsts) (length k.seconds) (length k.thirds) (length k.starts)
+rows_uneven_of k = uneven_of k
 
 -- some program's bytes are not all in a pool of this length; a program's kind is 0
 unfoldable pub any_outside : (pool : ℕ) → (kinds lens starts : List ℕ) → Bool

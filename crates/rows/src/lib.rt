@@ -6,33 +6,30 @@
 #![tactic(auto)]
 
 ghost use Rattle.std.specs.Prelude.{◌≡◌, ◌&&◌, ◌+◌, length, take, eqb, ltb};
-ghost use Rattle.script.specs.Columns.{columns};
-ghost use Rattle.rows.specs.Rows.{five_uneven, any_outside, begins_from, lengths_number, contents_number, rows_number};
+ghost use Rattle.basics.specs.Replies.{number_in};
+ghost use Rattle.refusals.specs.Numbers.{number_of};
+ghost use Rattle.script.specs.Lent.{columns_seen};
+ghost use Rattle.rows.specs.Rows.{any_outside, begins_from, lengths_number, contents_number, rows_number};
 
-use basics::lower;
+use refusals::Refusal;
+use script::CallsRef;
 use storage::Geometry;
 
-// Whether five columns of one list are unequal.
-fn columns_uneven(kinds: usize, firsts: usize, seconds: usize, thirds: usize, starts: usize) -> bool
-    ensures { result ≡ five_uneven kinds firsts seconds thirds starts }
+// Refuses lengths: 1 to 3, 7, then 12 where columns of one list are unequal.
+fn lengths_refusal(
+    geometry: Geometry,
+    media: usize,
+    copy: usize,
+    uneven: bool,
+) -> Result<(), Refusal>
+    ensures { number_in number_of result ≡ lengths_number geometry media copy uneven }
 {
-    (firsts != kinds) | (seconds != kinds) | (thirds != kinds) | (starts != kinds)
-}
-
-// The number of the lengths: 1 to 3, 7, then 12 where columns of one list are unequal.
-fn lengths_refusal(geometry: Geometry, media: usize, copy: usize, uneven: bool) -> u32
-    ensures { result ≡ lengths_number geometry media copy uneven }
-{
-    let checked = geometry.check();
-    let units = checked.refusal();
-    if units != 0 {
-        return units;
+    geometry.check()?;
+    session::size_refusal(geometry, media, copy)?;
+    if uneven {
+        return Err(Refusal::MalformedColumns);
     }
-    let sizes = session::size_refusal(geometry, media, copy);
-    if sizes != 0 {
-        return sizes;
-    }
-    if uneven { 12 } else { 0 }
+    Ok(())
 }
 
 // Whether a row is a program whose bytes are not all in a pool of this length.
@@ -42,52 +39,46 @@ fn is_outside(kind: u8, start: u32, len: u32, pool: usize) -> bool
     (kind == 0) & (pool < start as usize + len as usize)
 }
 
-// Whether some program's bytes are not all in a pool of this length. The rows are those that all three columns have.
+// Whether some program's bytes are not all in a pool of this length. The rows are those that all three columns have; a zip
+// of the three would be no plainer, since its items are pairs in pairs.
 fn any_outside(kinds: &[u8], lens: &[u32], starts: &[u32], pool: usize) -> bool
     ensures { result ≡ any_outside pool kinds.now lens.now starts.now }
 {
-    let both = lower(kinds.len(), lens.len());
-    let rows = lower(both, starts.len());
-    let mut i = 0;
-    while i < rows {
+    let both = kinds.len().min(lens.len());
+    let rows = both.min(starts.len());
+    for i in 0..rows {
         if is_outside(kinds[i], starts[i], lens[i], pool) {
             return true;
         }
-        i += 1;
     }
     false
 }
 
-// The number of what the rows counted hold, in columns of one length. No kind above `most` has a meaning here; `short` tells
-// whether something else that the run is lent is too short.
-fn contents_refusal(
-    most: u8,
-    rows: usize,
-    kinds: &[u8],
-    firsts: &[u32],
-    seconds: &[u32],
-    thirds: &[u32],
-    starts: &[u32],
-    pool: &[u8],
-    short: bool,
-) -> u32
-    requires { (length seconds.now ≡ length kinds.now) × (length starts.now ≡ length kinds.now) }
-    ensures { result ≡ contents_number most rows (columns kinds.now firsts.now seconds.now thirds.now starts.now pool.now) short }
+// Refuses what the rows counted hold, in columns of one length. No kind above `most` has a meaning here; `short` tells whether
+// something else that the run is lent is too short.
+fn contents_refusal(most: u8, rows: usize, calls: &CallsRef<'_>, short: bool) -> Result<(), Refusal>
+    requires { (length calls.now.seconds.now ≡ length calls.now.kinds.now) × (length calls.now.starts.now ≡ length calls.now.kinds.now) }
+    ensures { number_in number_of result ≡ contents_number most rows (columns_seen calls.now) short }
 {
-    let n = lower(rows, kinds.len());
-    if !model::all_up_to(&kinds[..n], most) {
-        return 12;
+    let there = calls.kinds.len();
+    let n = rows.min(there);
+    if !model::all_up_to(&calls.kinds[..n], most) {
+        return Err(Refusal::MalformedColumns);
     }
-    let outside = any_outside(&kinds[..n], &seconds[..n], &starts[..n], pool.len());
-    if short | (kinds.len() < rows) | outside {
-        13
-    } else {
-        0
+    let outside = any_outside(
+        &calls.kinds[..n],
+        &calls.seconds[..n],
+        &calls.starts[..n],
+        calls.pool.len(),
+    );
+    if short | (there < rows) | outside {
+        return Err(Refusal::ColumnsTooShort);
     }
+    Ok(())
 }
 
-// The number that refuses a run of the rows counted, 0 for none. A kind above `most` has no meaning; `uneven` tells whether other
-// columns that the run is lent are unequal, `short` whether they are too short.
+// What refuses a run of the rows counted. A kind above `most` has no meaning; `uneven` tells whether other columns that the run
+// is lent are unequal, `short` whether they are too short.
 pub fn rows_refusal(
     geometry: Geometry,
     media: usize,
@@ -96,29 +87,13 @@ pub fn rows_refusal(
     short: bool,
     most: u8,
     rows: usize,
-    kinds: &[u8],
-    firsts: &[u32],
-    seconds: &[u32],
-    thirds: &[u32],
-    starts: &[u32],
-    pool: &[u8],
-) -> u32
-    ensures { result ≡ rows_number geometry media copy uneven short most rows (columns kinds.now firsts.now seconds.now thirds.now starts.now pool.now) }
+    calls: &CallsRef<'_>,
+) -> Result<(), Refusal>
+    ensures { number_in number_of result ≡ rows_number geometry media copy uneven short most rows (columns_seen calls.now) }
 {
-    let listed = columns_uneven(
-        kinds.len(),
-        firsts.len(),
-        seconds.len(),
-        thirds.len(),
-        starts.len(),
-    );
-    let lengths = lengths_refusal(geometry, media, copy, uneven | listed);
-    if lengths != 0 {
-        return lengths;
-    }
-    contents_refusal(
-        most, rows, kinds, firsts, seconds, thirds, starts, pool, short,
-    )
+    let listed = calls.uneven();
+    lengths_refusal(geometry, media, copy, uneven | listed)?;
+    contents_refusal(most, rows, calls, short)
 }
 
 // ---- room for a ledger
@@ -129,13 +104,10 @@ fn begins_in(kinds: &[u8]) -> usize
 {
     let mut begins: usize = 0;
     let mut marks: usize = 0;
-    let mut i = 0;
-    while i < kinds.len() {
-        let kind = kinds[i];
-        let taken = (kind >= 3) & (marks < 512);
-        begins += session::flag_of(taken & (kind == 3)) as usize;
-        marks += session::flag_of(taken) as usize;
-        i += 1;
+    for kind in kinds {
+        let taken = (*kind >= 3) & (marks < 512);
+        begins += usize::from(taken & (*kind == 3));
+        marks += usize::from(taken);
     }
     begins
 }
@@ -144,6 +116,6 @@ fn begins_in(kinds: &[u8]) -> usize
 pub fn begins_taken(rows: usize, kinds: &[u8]) -> usize
     ensures { result ≡ begins_from 0 (take rows kinds.now) }
 {
-    let n = lower(rows, kinds.len());
+    let n = rows.min(kinds.len());
     begins_in(&kinds[..n])
 }

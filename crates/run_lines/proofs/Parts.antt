@@ -5,8 +5,8 @@
 --     judged-way, swept-way            the line of a ledger, one way or the other
 --     rows-line                        the line of a ledger that is the first rows of columns of 512
 --     on-part                          a run on a part of the media
---     armed-refused, armed-ended       a run that is refused, or one with its line
---     place-refused, place-run         a place without a run, or with one
+--     armed-is                         the line of a run by how it ended
+--     placed-is                        the line of the run at a place by what is armed there
 -- Assumes nothing.
 use mathlib.Core.Path.{◌≡◌, refl, sym, ap, ap₂, ◌∙◌}
 use mathlib.Core.Bool.{Bool, true, false}
@@ -16,38 +16,34 @@ use lib.ListN.{length, take, drop, replicate}
 use lib.Seq.{take_at}
 use lib.Dec.{eqb, leb}
 use borrow.Author.Tests.{eqb-true}
+use Rattle.basics.specs.Replies.{number_in}
 use Rattle.basics.specs.Tests.{unless, first_of}
 use Rattle.basics.proofs.Tests.{first_of-zero}
 use Rattle.basics.proofs.Lists.{take-few}
 use Rattle.landing.specs.declared.Stop.{Stop}
-use Rattle.model.specs.declared.ListAnswer.{ListAnswer}
-use Rattle.model.specs.declared.ListAnswer.TheVariants.{ListRefused, ListIs}
+use Rattle.std.specs.Prelude.{Result}
+use Rattle.std.specs.Prelude.{Err as ListRefused, Ok as ListIs}
 use Rattle.model.specs.Ledger.{Entry}
 use Rattle.model.specs.Columns.{ledger_of, refused}
 use Rattle.model.specs.Answers.{Written, written_unless}
-use Rattle.oracle.specs.declared.Banks.TheVariants.{Absent}
-use Rattle.oracle.specs.declared.Verdict.{Verdict}
+use Rattle.std.specs.Prelude.{None as Absent}
+use Rattle.oracle.specs.Verdict.{Verdict}
 use Rattle.oracle.specs.Verdict.{number_of, verdict, verified}
-use Rattle.session.specs.declared.Armed.{Armed}
+use Rattle.session.specs.Armed.{Armed}
 use Rattle.ledger.specs.Ledger.{Entered, entered_of}
 use Rattle.script.specs.declared.Head.{Head}
 use Rattle.script.specs.Columns.{Columns}
-use Rattle.lines.specs.declared.Line.{Line}
-use Rattle.lines.specs.declared.Line.TheVariants.{NotWritten}
+use Rattle.lines.specs.Answers.{Line}
+use Rattle.std.specs.Prelude.{Err as NotWritten}
 use Rattle.history.specs.History.{suggested, suggested_written}
 use Rattle.lines.specs.Lines.{judged_line}
 use Rattle.lines.specs.Answers.{Put, put}
 use Rattle.sweep_lines.specs.Answers.{sweep_put}
-use Rattle.armed_runs.specs.declared.Placed.{Placed}
-use Rattle.armed_runs.specs.declared.Placed.TheVariants.{Run, NoRun}
-use Rattle.armed_runs.specs.Places.{placed_at}
-use Rattle.harness_runs.specs.declared.Ran.{Ran}
-use Rattle.harness_runs.specs.declared.Ran.TheVariants.{Ended, NotRun}
+use Rattle.armed_runs.specs.Places.{Placed, placed_at}
+use Rattle.harness_runs.specs.Running.{Ran}
 use Rattle.harness_runs.specs.Running.{zeros, run_left, run_call, ran_on}
 use Rattle.text_of_runs.specs.Claim.{rows_to}
-use Rattle.run_lines.specs.declared.RunLine.{RunLine}
-use Rattle.run_lines.specs.declared.RunLine.TheVariants.{NoLine}
-use Rattle.run_lines.specs.RunLine.{judged_of, history_test, judge_put, line_put, run_put, line_reply, line_as, RunEnd, run_end, end_of, line_ended, armed_put, line_placed, run_line_call}
+use Rattle.run_lines.specs.RunLine.{judged_of, history_test, judge_put, line_put, RunEnd, run_end, end_of, line_ended, armed_put, line_placed, run_line_call}
 
 -- a line as it was put
 abbrev pub lined : Line → (out : List ℕ) → Put
@@ -61,17 +57,17 @@ module _ (place : ℕ) (is ss ts : List ℕ) (at : ℕ) (out : List ℕ) where
 
   -- the line on the first rows of a column
   abbrev line_on : (history : List ℕ) → Put
-  line_on history = put 0 (judged_line place (number_of (verified is ss ts history [] Absent)) history) at out
+  line_on history = put 0 (judged_line place (number_in number_of (verified is ss ts history [] Absent)) history) at out
 
   -- the line by what `suggested` answers and leaves
-  abbrev line_by : ListAnswer → (column : List ℕ) → Put
+  abbrev line_by : Result ℕ ℕ → (column : List ℕ) → Put
   line_by (ListIs count) column = line_on (take count column)
   line_by (ListRefused number) column = lined (NotWritten number) out
 
   -- the verdict's number, and its line
-  pub verdict-line : (history : List ℕ) (v : Verdict) → v ≡ verified is ss ts history [] Absent → (n : ℕ) → n ≡ number_of v → (line : Line) (new : List ℕ)
-      → lined line new ≡ put 0 (judged_line place n history) at out → lined line new ≡ line_on history
-  verdict-line history v e n q line new p = p ∙ ap (λ (x : ℕ). put 0 (judged_line place x history) at out) (q ∙ ap number_of e)
+  pub verdict-line : (history : List ℕ) (v : Verdict) → v ≡ verified is ss ts history [] Absent → (n : ℕ) → n ≡ number_in number_of v → (p : Put)
+      → p ≡ put 0 (judged_line place n history) at out → p ≡ line_on history
+  verdict-line history v e n q p h = h ∙ ap (λ (x : ℕ). put 0 (judged_line place x history) at out) (q ∙ ap (number_in number_of) e)
 
   refused-line : (n : ℕ) → eqb n 0 ≡ false → (bytes : List ℕ) → lined (NotWritten n) out ≡ put n bytes at out
   unfolding first_of
@@ -82,7 +78,7 @@ module _ (place : ℕ) (is ss ts : List ℕ) (at : ℕ) (out : List ℕ) where
   listed-line z =
       let sound : refused is ss ts ≡ 0 = (first_of-zero (refused is ss ts) (unless (leb (length (suggested held)) 512) 13 ∷ []) z).0 in
       let v : verified is ss ts (suggested held) [] Absent ≡ verdict held (suggested held) [] Absent = rw sound in
-      ap₂ (λ (n : ℕ) (w : Verdict). put n (judged_line place (number_of w) (suggested held)) at out) (sym z) v
+      ap₂ (λ (n : ℕ) (w : Verdict). put n (judged_line place (number_in number_of w) (suggested held)) at out) (sym z) v
 
   line-cases : (b : Bool) → eqb (history_test is ss ts) 0 ≡ b → (column : List ℕ)
       → line_by (written_unless (history_test is ss ts) (suggested held) column).answer (written_unless (history_test is ss ts) (suggested held) column).column
@@ -93,7 +89,7 @@ module _ (place : ℕ) (is ss ts : List ℕ) (at : ℕ) (out : List ℕ) where
       ∙ listed-line (eqb-true (history_test is ss ts) 0 e))
   line-cases false e column = rw e (refused-line (history_test is ss ts) e (judged_of place held))
 
-  module _ (column : List ℕ) (long : length column ≡ 512) (r : ListAnswer) (left : List ℕ)
+  module _ (column : List ℕ) (long : length column ≡ 512) (r : Result ℕ ℕ) (left : List ℕ)
       (w : ◌≡◌ {A = Written} (record { answer = r; column = left }) (suggested_written is ss ts column)) where
     line-is : line_by r left ≡ judge_put place is ss ts at out
     unfolding judge_put suggested_written
@@ -103,38 +99,34 @@ module _ (place : ℕ) (is ss ts : List ℕ) (at : ℕ) (out : List ℕ) where
         ap (λ (x : Written). line_by x.answer x.column) (w ∙ n) ∙ line-cases (eqb (history_test is ss ts) 0) refl column
 
     pub judged-by : (count : ℕ) → r ≡ ListIs count → line_on (take count left) ≡ judge_put place is ss ts at out
-    judged-by count e = ap (λ (x : ListAnswer). line_by x left) (sym e) ∙ line-is
+    judged-by count e = ap (λ (x : Result ℕ ℕ). line_by x left) (sym e) ∙ line-is
 
     pub judged-refused : (number : ℕ) → r ≡ ListRefused number → lined (NotWritten number) out ≡ judge_put place is ss ts at out
-    judged-refused number e = ap (λ (x : ListAnswer). line_by x left) (sym e) ∙ line-is
+    judged-refused number e = ap (λ (x : Result ℕ ℕ). line_by x left) (sym e) ∙ line-is
 
-    pub judged-listed : (count : ℕ) → r ≡ ListIs count → length left ≡ 512 → (n : ℕ) → n ≡ min count 512 → (line : Line) (new : List ℕ)
-        → lined line new ≡ line_on (take n left) → lined line new ≡ judge_put place is ss ts at out
-    judged-listed count e l n m line new p = p ∙ ap line_on (take-few left 512 count n l m) ∙ judged-by count e
+    pub judged-listed : (count : ℕ) → r ≡ ListIs count → length left ≡ 512 → (n : ℕ) → n ≡ min count 512 → (p : Put)
+        → p ≡ line_on (take n left) → p ≡ judge_put place is ss ts at out
+    judged-listed count e l n m p h = h ∙ ap line_on (take-few left 512 count n l m) ∙ judged-by count e
 
 -- ---- the line of a ledger
 
 module _ (judged : Bool) (place : ℕ) (a : Armed) (s : Stop) (operations : ℕ) (is ss ts : List ℕ) (at : ℕ) (out : List ℕ) where
-  pub judged-way : judged ≡ true → (line : Line) (new : List ℕ) → lined line new ≡ judge_put place is ss ts at out
-      → lined line new ≡ line_put judged place a s operations (entered_of is ss ts) at out
+  pub judged-way : judged ≡ true → (p : Put) → p ≡ judge_put place is ss ts at out → p ≡ line_put judged place a s operations (entered_of is ss ts) at out
   unfolding line_put
-  judged-way e line new p = rw e p
+  judged-way e p h = rw e h
 
-  pub swept-way : judged ≡ false → (line : Line) (new : List ℕ) → lined line new ≡ sweep_put place a s operations is ss ts at out
-      → lined line new ≡ line_put judged place a s operations (entered_of is ss ts) at out
+  pub swept-way : judged ≡ false → (p : Put) → p ≡ sweep_put place a s operations is ss ts at out → p ≡ line_put judged place a s operations (entered_of is ss ts) at out
   unfolding line_put
-  swept-way e line new p = rw e p
+  swept-way e p h = rw e h
 
-  pub rows-line : (count : ℕ) → length is ≡ 512 → length ss ≡ 512 → length ts ≡ 512 → (n : ℕ) → n ≡ min count 512 → (line : Line) (new : List ℕ)
-      → lined line new ≡ line_put judged place a s operations (entered_of (take n is) (take n ss) (take n ts)) at out → (r : RunLine) → r ≡ line_reply line
-      → run_put r new ≡ line_as (line_put judged place a s operations (rows_to count (entered_of is ss ts)) at out)
-  rows-line count li ls lt n m line new p r q =
+  pub rows-line : (count : ℕ) → length is ≡ 512 → length ss ≡ 512 → length ts ≡ 512 → (n : ℕ) → n ≡ min count 512 → (p : Put)
+      → p ≡ line_put judged place a s operations (entered_of (take n is) (take n ss) (take n ts)) at out
+      → p ≡ line_put judged place a s operations (rows_to count (entered_of is ss ts)) at out
+  rows-line count li ls lt n m p h =
       let ei : take n is ≡ take count is = take-few is 512 count n li m in
       let es : take n ss ≡ take count ss = take-few ss 512 count n ls m in
       let et : take n ts ≡ take count ts = take-few ts 512 count n lt m in
-      ap (λ (x : RunLine). run_put x new) q
-      ∙ ap line_as p
-      ∙ λ i. line_as (line_put judged place a s operations (entered_of (ei i) (es i) (et i)) at out)
+      h ∙ λ i. line_put judged place a s operations (entered_of (ei i) (es i) (et i)) at out
 
 -- ---- the run
 
@@ -152,16 +144,9 @@ on-part h a rows k media copy e lm lc n q r media₁ copy₁ ks os ls e₁ p =
 
 module _ (judged : Bool) (place : ℕ) (a : Armed) (h : Head) (rows : ℕ) (k : Columns) (at : ℕ) (out : List ℕ) (r : Ran) (e : Entered)
     (ran : run_end r e ≡ end_of (ran_on h a rows k)) where
-  armed-is : line_ended judged place a r e at out ≡ armed_put judged place a h rows k at out
+  pub armed-is : line_ended judged place a r e at out ≡ armed_put judged place a h rows k at out
   unfolding armed_put
   armed-is = ap (λ (x : RunEnd). line_ended judged place a x.reply x.entries at out) ran
-
-  pub armed-refused : (number : ℕ) → r ≡ NotRun number → run_put (NoLine number) out ≡ armed_put judged place a h rows k at out
-  armed-refused number q = ap (λ (x : Ran). line_ended judged place a x e at out) (sym q) ∙ armed-is
-
-  pub armed-ended : (s : Stop) (operations count : ℕ) (failed : Bool) → r ≡ Ended s operations count failed → (line : RunLine) (new : List ℕ)
-      → run_put line new ≡ line_as (line_put judged place a s operations (rows_to count e) at out) → run_put line new ≡ armed_put judged place a h rows k at out
-  armed-ended s operations count failed q line new p = p ∙ ap (λ (x : Ran). line_ended judged place a x e at out) (sym q) ∙ armed-is
 
 -- the run on columns of zeros
 pub on-zeros : (h : Head) (a : Armed) (rows : ℕ) (k : Columns) (r : Ran) (e : Entered)
@@ -176,13 +161,6 @@ on-zeros h a rows k r e p = p
 
 module _ (judged : Bool) (place : ℕ) (h : Head) (rows : ℕ) (k : Columns) (ks os ls : List ℕ) (at : ℕ) (out : List ℕ) (p : Placed)
     (e : p ≡ placed_at place h.geometry ks os ls) where
-  placed-is : line_placed judged place p h rows k at out ≡ run_line_call judged place h rows k ks os ls at out
+  pub placed-is : line_placed judged place p h rows k at out ≡ run_line_call judged place h rows k ks os ls at out
   unfolding run_line_call
   placed-is = ap (λ (x : Placed). line_placed judged place x h rows k at out) e
-
-  pub place-refused : (number : ℕ) → p ≡ NoRun number → run_put (NoLine number) out ≡ run_line_call judged place h rows k ks os ls at out
-  place-refused number q = ap (λ (x : Placed). line_placed judged place x h rows k at out) (sym q) ∙ placed-is
-
-  pub place-run : (a : Armed) → p ≡ Run a → (line : RunLine) (new : List ℕ) → run_put line new ≡ armed_put judged place a h rows k at out
-      → run_put line new ≡ run_line_call judged place h rows k ks os ls at out
-  place-run a q line new w = w ∙ ap (λ (x : Placed). line_placed judged place x h rows k at out) (sym q) ∙ placed-is

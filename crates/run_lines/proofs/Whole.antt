@@ -6,22 +6,23 @@ use mathlib.Core.Bool.{Bool, true, false, cond}
 use mathlib.Core.List.{List, []}
 use Prim.Native.Nat.{ℕ}
 use lib.ListN.{length, take, length-replicate}
+use Rattle.basics.specs.Replies.{number_in}
 use Rattle.model.specs.Answers.{Written}
-use Rattle.oracle.specs.declared.Banks.TheVariants.{Absent}
+use Rattle.std.specs.Prelude.{None as Absent}
 use Rattle.oracle.specs.Verdict.{number_of, verified}
-use Rattle.session.specs.declared.Armed.{Armed}
+use Rattle.session.specs.Armed.{Armed}
 use Rattle.ledger.specs.Ledger.{Entered}
 use Rattle.script.specs.declared.Head.{Head}
 use Rattle.script.specs.Columns.{Columns}
 use Rattle.lines.specs.Lines.{judged_line}
 use Rattle.history.specs.History.{suggested_written}
 use Rattle.lines.specs.Answers.{put}
-use Rattle.armed_runs.specs.declared.Placed.{Placed}
-use Rattle.harness_runs.specs.declared.Ran.{Ran}
+use Rattle.armed_runs.specs.Places.{Placed}
+use Rattle.harness_runs.specs.Running.{Ran}
 use Rattle.harness_runs.specs.Running.{zeros, RunLeft, ran_on}
 use Rattle.harness.specs.Opening.{OpenLeft}
 use Rattle.text_of_runs.specs.Claim.{RunPrinted, PlacePrinted}
-use Rattle.run_lines.specs.RunLine.{judge_put, line_put, line_as, line_ended, armed_put, line_placed, run_line_call}
+use Rattle.run_lines.specs.RunLine.{judge_put, line_put, line_ended, armed_put, line_placed, run_line_call}
 use Rattle.run_lines.proofs.Parts.{judged-by}
 
 pub zeros-long : (n : ℕ) → length (zeros n) ≡ n
@@ -37,7 +38,7 @@ module _ (place : ℕ) (armed : Armed) (ran : RunLeft) (sweep judge : List ℕ) 
       let w : Written = suggested_written p.rows.ids p.rows.states p.rows.torn column in
       let s = p.suggests column (zeros-long 512) in
       sym (judged-by place p.rows.ids p.rows.states p.rows.torn at out column (zeros-long 512) w.answer w.column refl (length p.history) s.0)
-      ∙ ap (λ (h : List ℕ). put 0 (judged_line place (number_of (verified p.rows.ids p.rows.states p.rows.torn h [] Absent)) h) at out) s.1
+      ∙ ap (λ (h : List ℕ). put 0 (judged_line place (number_in number_of (verified p.rows.ids p.rows.states p.rows.torn h [] Absent)) h) at out) s.1
       ∙ ap (λ (bytes : List ℕ). put 0 bytes at out) p.judged
 
   line-put : (judged : Bool) → line_put judged place armed p.stop p.operations p.rows at out ≡ put 0 (cond judged judge sweep) at out
@@ -45,18 +46,18 @@ module _ (place : ℕ) (armed : Armed) (ran : RunLeft) (sweep judge : List ℕ) 
   line-put true = judge-put
   line-put false = p.swept at out
 
-  pub ended-put : (judged : Bool) → line_ended judged place armed ran.reply ran.entries at out ≡ line_as (put 0 (cond judged judge sweep) at out)
+  pub ended-put : (judged : Bool) → line_ended judged place armed ran.reply ran.entries at out ≡ put 0 (cond judged judge sweep) at out
   ended-put judged =
       ap (λ (x : Ran). line_ended judged place armed x ran.entries at out) p.ended
-      ∙ ap (λ (e : Entered). line_as (line_put judged place armed p.stop p.operations e at out)) (sym p.rows_are)
-      ∙ ap line_as (line-put judged)
+      ∙ ap (λ (e : Entered). line_put judged place armed p.stop p.operations e at out) (sym p.rows_are)
+      ∙ line-put judged
 
 -- ---- the line at a place
 
 pub line_at : (judged : Bool) (place : ℕ) (h : Head) (rows : ℕ) (k : Columns) (o : OpenLeft) (operations : ℕ) (sweep judge : List ℕ)
     → PlacePrinted h rows k o operations place sweep judge → (at : ℕ) (out : List ℕ)
     → run_line_call judged place h rows k (take operations o.kinds) (take operations o.offsets) (take operations o.lens) at out
-    ≡ line_as (put 0 (cond judged judge sweep) at out)
+    ≡ put 0 (cond judged judge sweep) at out
 unfolding run_line_call armed_put
 line_at judged place h rows k o operations sweep judge p at out =
     ap (λ (x : Placed). line_placed judged place x h rows k at out) p.placed

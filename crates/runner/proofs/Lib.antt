@@ -1,5 +1,4 @@
 -- Laws of rows in turn.
-pub mod Places
 pub mod Turns
 pub mod Lines
 pub mod Listed

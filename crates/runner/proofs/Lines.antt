@@ -2,12 +2,13 @@
 --     tasks-calls     they ask for the calls that the table holds
 --     writes          run in turn they are what a writer does: the session left, and whether it returned an error
 -- Assumes nothing.
-use mathlib.Core.Path.{◌≡◌, refl, sym, ap, ◌∙◌}
-use mathlib.Core.Bool.{Bool, true, false, cond, ◌&&◌, ◌||◌, true≢false}
+use mathlib.Core.Path.{◌≡◌, refl, ap, ◌∙◌}
+use mathlib.Core.Bool.{Bool, true, false, cond, ◌||◌}
 use mathlib.Core.List.{List, [], ◌∷◌, map}
 use Prim.Native.Nat.{ℕ, zero, suc}
 use lib.ListN.{take}
 use lib.Dec.{eqb, leb}
+use Rattle.std.proofs.lemmas.Bool.{and_parts}
 use Rattle.model.specs.Columns.{all_up_to}
 use Rattle.session.specs.declared.Told.{Told}
 use Rattle.script.specs.Calls.{Call}
@@ -17,10 +18,6 @@ use Rattle.threaded.specs.Threaded.{Session, Answered}
 use Rattle.steps.specs.Writer.{line_answered, Wrote, wrote}
 use Rattle.steps.specs.Step.{Task, call, task_from, step_answered}
 use Rattle.runner.specs.Run.{tasks_of, tasks_in, Outcome, ran_rows}
-
-pub and_both : (a b : Bool) → (a && b) ≡ true → (a ≡ true) × (b ≡ true)
-and_both true b h = (refl, h)
-and_both false b h = absurd (true≢false (sym h))
 
 module _ (most : ℕ) (few : (kind : ℕ) → leb kind most ≡ true → leb kind 5 ≡ true) (pool : List ℕ) where
   rows-calls : (n : ℕ) (ks xs bs cs ss : List ℕ) → all_up_to most (take n ks) ≡ true → tasks_of n ks xs bs cs ss pool ≡ map call (rows_in n ks xs bs cs ss pool)
@@ -32,7 +29,7 @@ module _ (most : ℕ) (few : (kind : ℕ) → leb kind most ≡ true → leb kin
   rows-calls (suc n) (k ∷ ks) (a ∷ xs) (b ∷ bs) [] ss h = refl
   rows-calls (suc n) (k ∷ ks) (a ∷ xs) (b ∷ bs) (c ∷ cs) [] h = refl
   rows-calls (suc n) (k ∷ ks) (a ∷ xs) (b ∷ bs) (c ∷ cs) (s ∷ ss) h =
-      let two = and_both (leb k most) (all_up_to most (take n ks)) h in
+      let two = and_parts (leb k most) (all_up_to most (take n ks)) h in
       rw (few k two.0) (ap (λ (ts : List Task). call (call_from k a b c s pool) ∷ ts) (rows-calls n ks xs bs cs ss two.1))
 
 pub tasks-calls : (most n : ℕ) (k : Columns) → ((kind : ℕ) → leb kind most ≡ true → leb kind 5 ≡ true) → all_up_to most (take n k.kinds) ≡ true

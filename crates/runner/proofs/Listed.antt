@@ -5,7 +5,7 @@
 --     answers-fit     answers that fit are at the beginning of their column
 -- Assumes nothing.
 use mathlib.Core.Path.{◌≡◌, refl, sym, ap, ◌∙◌}
-use mathlib.Core.Bool.{Bool, true, false, cond, ◌||◌, true≢false}
+use mathlib.Core.Bool.{Bool, true, false, cond, true≢false}
 use mathlib.Core.List.{List, [], ◌∷◌, ◌++◌, map}
 use Prim.Native.Nat.{ℕ, zero, suc, ◌+◌, ◌≤◌, zero-le, suc-le-suc}
 use native.Mathlib.Nat.{le_trans}
@@ -14,6 +14,8 @@ use lib.ListN.{length, take, drop}
 use lib.Seq.{sets-eq}
 use lib.Dec.{eqb, leb}
 use borrow.Author.Tests.{lt-leb}
+use Rattle.std.proofs.Math.Bool.{or-true}
+use Rattle.std.proofs.lemmas.Bool.{and_parts}
 use Rattle.model.specs.Columns.{all_up_to}
 use Rattle.session.specs.declared.Told.{Told}
 use Rattle.plain.specs.Plain
@@ -26,15 +28,10 @@ use Rattle.steps.specs.Step.{call, step_answered}
 use Rattle.steps.specs.Calls.{no_range, plain_calls}
 use Rattle.steps.proofs.Lines.{Same, none, more, lines_same}
 use Rattle.runner.specs.Run.{Outcome, turned, ran_rows, leaves}
-use Rattle.runner.proofs.Lines.{and_both}
 
 -- rows that carry on, as a list of calls
 abbrev pub carried_on : Threaded → Outcome
 carried_on x = record { answers = x.answers; session = x.session; failed = false }
-
-or-true : (b : Bool) → (b || true) ≡ true
-or-true true = refl
-or-true false = refl
 
 module _ (t : Told) where
   -- one call, and those after it
@@ -81,7 +78,7 @@ module _ (pool : List ℕ) where
   no-range-rows (suc n) (k ∷ ks) (a ∷ xs) (b ∷ bs) [] ss h = refl
   no-range-rows (suc n) (k ∷ ks) (a ∷ xs) (b ∷ bs) (c ∷ cs) [] h = refl
   no-range-rows (suc n) (k ∷ ks) (a ∷ xs) (b ∷ bs) (c ∷ cs) (s ∷ ss) h =
-      let two = and_both (leb k 4) (all_up_to 4 (take n ks)) h in
+      let two = and_parts (leb k 4) (all_up_to 4 (take n ks)) h in
       no-range-one k a b c s (rows_in n ks xs bs cs ss pool) two.0 (no-range-rows n ks xs bs cs ss two.1)
 
   rows_few : (n : ℕ) (ks xs bs cs ss : List ℕ) → length (rows_in n ks xs bs cs ss pool) ≤ n

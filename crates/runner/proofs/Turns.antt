@@ -2,6 +2,7 @@
 --     tasks-row, tasks-none      the rows from one on: a row and the rest, and none at the end
 --     Left                       the rows from one on, from the session and the answers so far, leave what all leave
 --     left-first, left-turn, left-stop, left_end
+--     error-told                 an answer is an error where its number is not 0
 -- Assumes nothing.
 use mathlib.Core.Logic.{⊎_elim}
 use mathlib.Core.Path.{◌≡◌, refl, sym, ap, ◌∙◌}
@@ -14,12 +15,19 @@ use lib.Seq.{sets}
 use lib.Dec.{eqb}
 use Rattle.basics.proofs.Scans.{at-step, at-end}
 use Rattle.basics.proofs.Tests.{le-or-gt}
+use Rattle.std.specs.Prelude.{Result, Ok, Err}
+use Rattle.std.specs.Result.{is_err}
+use borrow.Author.Tests.{ne_eqb}
+use Rattle.basics.specs.Replies.{number_in}
+use Rattle.refusals.specs.declared.Refusal.{Refusal}
+use Rattle.refusals.specs.Numbers.{number_of}
+use Rattle.refusals.specs.Nonzero.{refusal-nonzero}
 use Rattle.session.specs.declared.Told.{Told}
 use Rattle.threaded.specs.Threaded.{Session, Answered}
 use Rattle.script.specs.Columns.{Columns}
 use Rattle.steps.specs.declared.Row.{Row}
 use Rattle.steps.specs.Step.{Task, step_answered}
-use Rattle.runner.specs.Run.{row_from, task_of, tasks_of, tasks_in, Outcome, turned, ran_rows, Leaves, leaves}
+use Rattle.runner.specs.Run.{row_in, there, task_of, tasks_of, tasks_in, Outcome, turned, ran_rows, Leaves, leaves}
 
 -- ---- the rows from one on
 
@@ -29,12 +37,7 @@ tasks_at rows k i =
 
 abbrev pub task_at : Columns → ℕ → Task
 task_at k i =
-    task_of k.pool (row_from (get_or k.kinds i 0) (get_or k.firsts i 0) (get_or k.seconds i 0) (get_or k.thirds i 0) (get_or k.starts i 0))
-
--- as many rows as there are
-abbrev pub there : (rows : ℕ) → Columns → ℕ
-there rows k =
-    min (min (min rows (length k.kinds)) (min (length k.firsts) (length k.seconds))) (min (length k.thirds) (length k.starts))
+    task_of k.pool (row_in k i)
 
 -- a column that has ended has no row
 module _ (pool : List ℕ) where
@@ -185,7 +188,7 @@ stops false false q = refl
 
 module _ (t : Told) (on : Bool) (rows : ℕ) (k : Columns) (all : Leaves) (i : ℕ) (s : Session) (x : Answered) (column column' : List ℕ)
     (n : ℕ) (q : n ≡ there rows k) (h : i < n) (l : Left t on rows k all i s column)
-    (row : Row) (p : row ≡ row_from (get_or k.kinds i 0) (get_or k.firsts i 0) (get_or k.seconds i 0) (get_or k.thirds i 0) (get_or k.starts i 0))
+    (row : Row) (p : row ≡ row_in k i)
     (e : x ≡ step_answered t s (task_of k.pool row)) (w : column' ≡ set column i x.answer) where
   row_is : from i (turned on x (ran_rows t on x.session (tasks_at rows k (i + 1)))) column ≡ all
   unfolding ran_rows
@@ -209,10 +212,15 @@ module _ (t : Told) (on : Bool) (rows : ℕ) (k : Columns) (all : Leaves) (i : �
       → ◌≡◌ {A = Leaves} (record { session = x.session; failed = true; done = i + 1; answers = column' }) all
   left-stop b = rw w (rw (stops (eqb x.answer 0) on b) at row_is)
 
-pub left_end : (t : Told) (on : Bool) (rows : ℕ) (k : Columns) (all : Leaves) (i : ℕ) (s : Session) (column : List ℕ) (n : ℕ) → n ≡ there rows k → n ≤ i
-    → Left t on rows k all i s column → ◌≡◌ {A = Leaves} (record { session = s; failed = false; done = i; answers = column }) all
+pub left_end : (t : Told) (on : Bool) (rows : ℕ) (k : Columns) (all : Leaves) (i : ℕ) (s : Session) (column : List ℕ) (n : ℕ) → n ≡ there rows k → n ≤ i → i ≤ n
+    → Left t on rows k all i s column → ◌≡◌ {A = Leaves} (record { session = s; failed = false; done = n; answers = column }) all
 unfolding ran_rows
-left_end t on rows k all i s column n q h l =
-    let z : i + 0 ≡ i = omega arith in
+left_end t on rows k all i s column n q h g l =
+    let z : i + 0 ≡ n = omega arith in
     sym (λ j. record { session = s; failed = false; done = z j; answers = column })
     ∙ sym (ap (λ (xs : List Task). from i (ran_rows t on s xs) column) (tasks-none rows k i (rw q at h))) ∙ l.leaves_all
+
+-- an answer is an error where its number is not 0
+pub error-told : (r : Result (Unit {0}) Refusal) → is_err r ≡ not (eqb (number_in number_of r) 0)
+error-told (Ok x) = refl
+error-told (Err e) = rw (ne_eqb (number_of e) 0 (refusal-nonzero e))

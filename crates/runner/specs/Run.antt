@@ -1,5 +1,5 @@
 -- Rows in turn through a session: stopping at the first error, or carrying on. Definitions only; assumes nothing.
-use Rattle.std.specs.Prelude.{Bool, true, false, ◌||◌, cond, List, [], ◌∷◌, ℕ, zero, suc, length, eqb}
+use Rattle.std.specs.Prelude.{Bool, true, false, ◌||◌, cond, List, [], ◌∷◌, ℕ, zero, suc, min, length, get_or, eqb}
 use Rattle.std.proofs.lemmas.List.Edits.{sets}
 use Rattle.session.specs.declared.Told.{Told}
 use Rattle.session.specs.Log.{Log, Marks}
@@ -12,6 +12,15 @@ use Rattle.runner.specs.declared.Ended.{Ended}
 -- the row of five numbers
 abbrev pub row_from : (kind first second third start : ℕ) → Row
 row_from k a b c s = record { kind = k; first = a; second = b; third = c; start = s }
+
+-- the row at a place of the columns
+abbrev pub row_in : Columns → (at : ℕ) → Row
+row_in k i = row_from (get_or k.kinds i 0) (get_or k.firsts i 0) (get_or k.seconds i 0) (get_or k.thirds i 0) (get_or k.starts i 0)
+
+-- as many rows as were counted and as all five columns have
+abbrev pub there : (rows : ℕ) → Columns → ℕ
+there rows k =
+    min (min (min rows (length k.kinds)) (min (length k.firsts) (length k.seconds))) (min (length k.thirds) (length k.starts))
 
 -- what a row asks for
 abbrev pub task_of : (pool : List ℕ) → Row → Task

@@ -89,7 +89,8 @@ cells-broken x (y ∷ ys) e =
 
 -- ---- fields that are read from their place
 
-above-ne : (x n : ℕ) → n ≤ 10 → 10 < x → x ≡ n → ⊥
+-- what is no tab and no LF
+pub above-ne : (x n : ℕ) → n ≤ 10 → 10 < x → x ≡ n → ⊥
 above-ne x n h k e = omega arith
 
 plain-last : (f rest : List ℕ) → Plain f → cells_of (f ++ (10 ∷ rest)) ≡ cells f [] rest

@@ -8,18 +8,17 @@ use native.Mathlib.Omega.{arith}
 use lib.ListN.{length, set, take, drop, length-append, length-map, length-set, length-take, length-drop, take-append-drop}
 use lib.Seq.{take_at, drop-append-add, drop-drop, length-take-le, drop-length}
 use borrow.Rule.Slice.PartMut.{put_mid}
+use Rattle.std.proofs.lemmas.List.{map-append}
 use Rattle.basics.specs.Parts.{part, overlaid}
 use Rattle.basics.proofs.Parts.{part-back}
 use Rattle.text.specs.Lines.{lines_of}
 use Rattle.text.specs.Pairs.{pair_values, over}
 use Rattle.hex_pairs.specs.Answers.{decoded}
-use Rattle.script.specs.declared.Line.{Line}
-use Rattle.script.specs.declared.Line.TheVariants.{Call as Called, Faulty}
 use Rattle.script.specs.declared.Row.{Row}
 use Rattle.script.specs.Calls.{Call, malformed, Reading, calls, faulty, call_then, read_lines}
 use Rattle.script.specs.Columns.{Columns, columns, kind_of, first_in, second_in, third_in, bytes_in, starts_of, bytes_of, written}
-use Rattle.script.specs.Inner.{cells_of, meaning_in, Taken, Reads, Ready, stored}
-use Rattle.script.proofs.Passes.{line-faulty, line_taken, no_lines, row-taken}
+use Rattle.script.specs.Inner.{cells_of, meaning_in, Taken, Ready, stored}
+use Rattle.script.proofs.Passes.{line-faulty, line_taken, no_lines}
 
 -- ---- a list with its front replaced, one element or some more
 
@@ -63,10 +62,6 @@ store-some s start pool used free h k new e =
     rw m at b ∙ ap (overlaid pool used) e
 
 -- ---- one call more
-
-map_snoc : (f : Call → ℕ) (ds : List Call) (x : Call) → map f (ds ++ (x ∷ [])) ≡ map f ds ++ (f x ∷ [])
-map_snoc f [] x = refl
-map_snoc f (d ∷ ds) x = ap (λ (l : List ℕ). f d ∷ l) (map_snoc f ds x)
 
 bytes-snoc : (ds : List Call) (x : Call) → bytes_of (ds ++ (x ∷ [])) ≡ bytes_of ds ++ bytes_in x
 unfolding bytes_of
@@ -153,20 +148,16 @@ module _ (s : List ℕ) (from : ℕ) (cs : List Call) (k₀ k : Columns) (at i u
       let q : [] ≡ w.rest = cc in
       w.is ∙ ap (λ (c : List Call). written c k₀) (sym (append-nil w.done) ∙ ap (λ (r : List Call). w.done ++ r) q ∙ w.all)
 
-  module _ (h : at < length s) (r : Line) where
+  module _ (h : at < length s) where
     -- no line of a sound script is faulty
-    pub fill-faulty : r ≡ Faulty → Reads s at r → k ≡ written cs k₀
-    fill-faulty q v =
-        let m : meaning_in (cells_of (drop at s)) ≡ malformed = rw q at v in
+    pub fill-faulty : meaning_in (cells_of (drop at s)) ≡ malformed → k ≡ written cs k₀
+    fill-faulty m =
         let e : faulty (i + 2) ≡ calls w.rest = sym (line-faulty s at (i + 2) h m) ∙ w.lines in
         absurd (let z : ◌≡◌ {A = ℕ} 0 1 = cc in omega arith)
 
-    module _ (row : Row) (next : ℕ) (q : r ≡ Called row next) (v : Reads s at r) where
+    module _ (row : Row) (next : ℕ) (t : Taken s at row next) where
       abbrev size : ℕ
       size = row.size
-
-      t : Taken s at row next
-      t = row-taken s at r row next q v
 
       n : Next s t.it w.rest (i + 2 + 1) next
       n = next-by (read_lines (i + 2 + 1) (lines_of (drop next s))) s t.it w.rest (i + 2 + 1) next refl (sym (line_taken s at row next (i + 2) t) ∙ w.lines)
@@ -235,7 +226,7 @@ module _ (s : List ℕ) (from : ℕ) (cs : List Call) (k₀ k : Columns) (at i u
             let u : i ≡ length (map f w.done) = w.count ∙ sym m in
             let y = below in
             let lt : length (map f w.done) < length old = omega arith in
-            rw (e, g) (over-set-at (map f w.done) old i (f t.it) u lt) ∙ ap (λ (x' : List ℕ). over x' old) (sym (map_snoc f w.done t.it))
+            rw (e, g) (over-set-at (map f w.done) old i (f t.it) u lt) ∙ ap (λ (x' : List ℕ). over x' old) (sym (map-append f w.done (t.it ∷ [])))
 
         starts-are : set k.starts i used ≡ over (starts_of 0 (w.done ++ (t.it ∷ []))) k₀.starts
         unfolding written

@@ -1,28 +1,24 @@
 -- A line after the first, by its letter: what each way out of the line readers says of the line.
 -- Assumes nothing.
-use mathlib.Core.Path.{◌≡◌, refl, ap, sym, ◌∙◌}
+use mathlib.Core.Path.{◌≡◌, refl, ap, ◌∙◌}
 use mathlib.Core.Bool.{Bool, true, false, cond, not, ◌&&◌}
-use mathlib.Core.List.{List, [], ◌∷◌, ◌++◌}
-use Prim.Native.Nat.{ℕ, suc, ◌+◌, ◌-◌, ◌*◌, ◌/◌, ◌%◌, ◌≤◌, ◌<◌}
+use mathlib.Core.List.{List, [], ◌∷◌}
+use Prim.Native.Nat.{ℕ, ◌+◌, ◌-◌, ◌*◌, ◌/◌, ◌%◌, ◌≤◌, ◌<◌}
 use native.Mathlib.Nat.{mul-le-mul, mul-pos}
-use native.Mathlib.Numerals.{add-one}
 use native.Mathlib.Omega.{arith}
-use lib.ListN.{length, get_or, take, drop, drop_of_length-le}
-use lib.Dec.{eqb, leb}
+use lib.ListN.{length, get_or, drop, drop_of_length-le}
+use lib.Dec.{eqb}
 use borrow.Author.Tests.{ne_eqb, eqb-true, eqb-false, le-leb, lt-leb}
 use Rattle.basics.proofs.Scans.{at-step}
-use Rattle.read_fields.specs.declared.Number.{Number}
-use Rattle.read_fields.specs.declared.Number.TheVariants.{Value, NoNumber}
-use Rattle.hex_pairs.specs.declared.Pairs.{Pairs}
-use Rattle.hex_pairs.specs.declared.Pairs.TheVariants.{Paired, NoPairs}
+use Rattle.std.specs.Prelude.{Some, None}
 use Rattle.text.specs.Fields.{field_to}
 use Rattle.text.specs.Numbers.{Decimal, number, none, number_of}
 use Rattle.text.specs.Pairs.{is_pairs, pair_values}
 use Rattle.read_fields.specs.Answers.{number_at}
 use Rattle.hex_pairs.specs.Answers.{pairs_at}
-use Rattle.script.specs.Calls.{Call, begin, end, mark, program, erase, barrier, Meaning, call, malformed, begin_with, mark_with, erase_with, program_with, is_bytes, is_kind, call_of}
+use Rattle.script.specs.Calls.{begin, end, mark, program, erase, barrier, malformed, begin_with, mark_with, erase_with, program_with, is_bytes, call_of}
 use Rattle.script.specs.Inner.{Cells, cells, broken, onto_cell, push_cell, cells_of, in_front, meaning_in, Opened, row_of, Taken}
-use Rattle.script.proofs.Told.{Inner, inner-value, inner-none, Last, last-value, last_none, PairsLast, pairs-value, pairs-none}
+use Rattle.script.proofs.Told.{inner-value, inner-none, last-value, last_none, pairs-value, pairs-none}
 
 -- ---- the letter and the byte after it
 
@@ -137,16 +133,16 @@ begin-missed broken n = refl
 begin-missed (cells f [] rest) n = rw (n f rest refl)
 begin-missed (cells f (g ∷ gs) rest) n = refl
 
-module _ (s : List ℕ) (from : ℕ) (w : Opened s from 66 9) (r : Number) (e : r ≡ number_at (from + 2) (field_to 10 (drop (from + 2) s))) where
-  pub begin-taken : (id next : ℕ) → r ≡ Value id next → Taken s from (row_of 3 id 0 0 next 0) next
+module _ (s : List ℕ) (from : ℕ) (w : Opened s from 66 9) where
+  pub begin-taken : (id next : ℕ) → Some (id, next) ≡ number_at (from + 2) (field_to 10 (drop (from + 2) s)) → Taken s from (row_of 3 id 0 0 next 0) next
   unfolding call_of
-  begin-taken id next q =
-      let l = last-value s (from + 2) r id next e q in
+  begin-taken id next e =
+      let l = last-value s (from + 2) id next e in
       let a = l.forward in
       record { it = begin id; field = 66 ∷ []; others = l.f ∷ []; is = fronted s from 66 (omega arith) w ∙ ap (in_front (66 ∷ [])) l.is; means = ap begin_with l.number_is; kind-is = refl; first-is = refl; second_is = refl; third-is = refl; size_is = refl; bytes = refl; small = omega arith; forward = omega arith; inside = l.inside }
 
-  pub begin-faulty : r ≡ NoNumber → meaning_in (cells_of (drop from s)) ≡ malformed
-  begin-faulty q = ap meaning_in (fronted s from 66 (omega arith) w) ∙ begin-missed (cells_of (drop (from + 2) s)) (last_none s (from + 2) r e q)
+  pub begin-faulty : None ≡ number_at (from + 2) (field_to 10 (drop (from + 2) s)) → meaning_in (cells_of (drop from s)) ≡ malformed
+  begin-faulty e = ap meaning_in (fronted s from 66 (omega arith) w) ∙ begin-missed (cells_of (drop (from + 2) s)) (last_none s (from + 2) e)
 
 -- ---- `E`
 
@@ -167,21 +163,21 @@ erase-missed-2 f broken n = refl
 erase-missed-2 f (cells g [] rest) n = rw (n g rest refl) (erase-none (number_of f))
 erase-missed-2 f (cells g (h ∷ hs) rest) n = refl
 
-module _ (s : List ℕ) (from : ℕ) (w : Opened s from 69 9) (r : Number) (e : r ≡ number_at (from + 2) (field_to 9 (drop (from + 2) s))) where
-  pub erase-faulty : r ≡ NoNumber → meaning_in (cells_of (drop from s)) ≡ malformed
-  erase-faulty q = ap meaning_in (fronted s from 69 (omega arith) w) ∙ erase-missed (cells_of (drop (from + 2) s)) (inner-none s (from + 2) r e q)
+module _ (s : List ℕ) (from : ℕ) (w : Opened s from 69 9) where
+  pub erase-faulty : None ≡ number_at (from + 2) (field_to 9 (drop (from + 2) s)) → meaning_in (cells_of (drop from s)) ≡ malformed
+  erase-faulty e = ap meaning_in (fronted s from 69 (omega arith) w) ∙ erase-missed (cells_of (drop (from + 2) s)) (inner-none s (from + 2) e)
 
-  module _ (offset at : ℕ) (q : r ≡ Value offset at) (t : Number) (d : t ≡ number_at at (field_to 10 (drop at s))) where
-    pub erase-faulty-2 : t ≡ NoNumber → meaning_in (cells_of (drop from s)) ≡ malformed
+  module _ (offset at : ℕ) (e : Some (offset, at) ≡ number_at (from + 2) (field_to 9 (drop (from + 2) s))) where
+    pub erase-faulty-2 : None ≡ number_at at (field_to 10 (drop at s)) → meaning_in (cells_of (drop from s)) ≡ malformed
     erase-faulty-2 p =
-        let i = inner-value s (from + 2) r offset at e q in
-        ap meaning_in (fronted s from 69 (omega arith) w ∙ ap (in_front (69 ∷ [])) i.is) ∙ erase-missed-2 i.f (cells_of (drop at s)) (last_none s at t d p)
+        let i = inner-value s (from + 2) offset at e in
+        ap meaning_in (fronted s from 69 (omega arith) w ∙ ap (in_front (69 ∷ [])) i.is) ∙ erase-missed-2 i.f (cells_of (drop at s)) (last_none s at p)
 
-    pub erase-taken : (len next : ℕ) → t ≡ Value len next → Taken s from (row_of 1 offset len 0 next 0) next
+    pub erase-taken : (len next : ℕ) → Some (len, next) ≡ number_at at (field_to 10 (drop at s)) → Taken s from (row_of 1 offset len 0 next 0) next
     unfolding call_of
     erase-taken len next p =
-        let i = inner-value s (from + 2) r offset at e q in
-        let l = last-value s at t len next d p in
+        let i = inner-value s (from + 2) offset at e in
+        let l = last-value s at len next p in
         let a = i.forward in
         let b = l.forward in
         record { it = erase offset len; field = 69 ∷ []; others = i.f ∷ l.f ∷ []; is = fronted s from 69 (omega arith) w ∙ ap (in_front (69 ∷ [])) (i.is ∙ ap (in_front i.f) l.is); means = rw (i.number_is, l.number_is); kind-is = refl; first-is = refl; second_is = refl; third-is = refl; size_is = refl; bytes = refl; small = omega arith; forward = omega arith; inside = l.inside }
@@ -218,29 +214,29 @@ mark-missed-3 f g broken n = refl
 mark-missed-3 f g (cells h [] rest) n = rw (n h rest refl) (mark-none (number_of f) (number_of g))
 mark-missed-3 f g (cells h (i ∷ is) rest) n = refl
 
-module _ (s : List ℕ) (from : ℕ) (w : Opened s from 77 9) (r : Number) (e : r ≡ number_at (from + 2) (field_to 9 (drop (from + 2) s))) where
-  pub mark-faulty : r ≡ NoNumber → meaning_in (cells_of (drop from s)) ≡ malformed
-  mark-faulty q = ap meaning_in (fronted s from 77 (omega arith) w) ∙ mark-missed (cells_of (drop (from + 2) s)) (inner-none s (from + 2) r e q)
+module _ (s : List ℕ) (from : ℕ) (w : Opened s from 77 9) where
+  pub mark-faulty : None ≡ number_at (from + 2) (field_to 9 (drop (from + 2) s)) → meaning_in (cells_of (drop from s)) ≡ malformed
+  mark-faulty e = ap meaning_in (fronted s from 77 (omega arith) w) ∙ mark-missed (cells_of (drop (from + 2) s)) (inner-none s (from + 2) e)
 
-  module _ (id at : ℕ) (q : r ≡ Value id at) (t : Number) (d : t ≡ number_at at (field_to 9 (drop at s))) where
-    pub mark-faulty-2 : t ≡ NoNumber → meaning_in (cells_of (drop from s)) ≡ malformed
+  module _ (id at : ℕ) (e : Some (id, at) ≡ number_at (from + 2) (field_to 9 (drop (from + 2) s))) where
+    pub mark-faulty-2 : None ≡ number_at at (field_to 9 (drop at s)) → meaning_in (cells_of (drop from s)) ≡ malformed
     mark-faulty-2 p =
-        let i = inner-value s (from + 2) r id at e q in
-        ap meaning_in (fronted s from 77 (omega arith) w ∙ ap (in_front (77 ∷ [])) i.is) ∙ mark-missed-2 i.f (cells_of (drop at s)) (inner-none s at t d p)
+        let i = inner-value s (from + 2) id at e in
+        ap meaning_in (fronted s from 77 (omega arith) w ∙ ap (in_front (77 ∷ [])) i.is) ∙ mark-missed-2 i.f (cells_of (drop at s)) (inner-none s at p)
 
-    module _ (low past : ℕ) (p : t ≡ Value low past) (u : Number) (c : u ≡ number_at past (field_to 10 (drop past s))) where
-      pub mark-faulty-3 : u ≡ NoNumber → meaning_in (cells_of (drop from s)) ≡ malformed
+    module _ (low past : ℕ) (p : Some (low, past) ≡ number_at at (field_to 9 (drop at s))) where
+      pub mark-faulty-3 : None ≡ number_at past (field_to 10 (drop past s)) → meaning_in (cells_of (drop from s)) ≡ malformed
       mark-faulty-3 o =
-          let i = inner-value s (from + 2) r id at e q in
-          let j = inner-value s at t low past d p in
-          ap meaning_in (fronted s from 77 (omega arith) w ∙ ap (in_front (77 ∷ [])) (i.is ∙ ap (in_front i.f) j.is)) ∙ mark-missed-3 i.f j.f (cells_of (drop past s)) (last_none s past u c o)
+          let i = inner-value s (from + 2) id at e in
+          let j = inner-value s at low past p in
+          ap meaning_in (fronted s from 77 (omega arith) w ∙ ap (in_front (77 ∷ [])) (i.is ∙ ap (in_front i.f) j.is)) ∙ mark-missed-3 i.f j.f (cells_of (drop past s)) (last_none s past o)
 
-      pub mark-taken : (high next : ℕ) → u ≡ Value high next → Taken s from (row_of 5 id low high next 0) next
+      pub mark-taken : (high next : ℕ) → Some (high, next) ≡ number_at past (field_to 10 (drop past s)) → Taken s from (row_of 5 id low high next 0) next
       unfolding call_of
       mark-taken high next o =
-          let i = inner-value s (from + 2) r id at e q in
-          let j = inner-value s at t low past d p in
-          let l = last-value s past u high next c o in
+          let i = inner-value s (from + 2) id at e in
+          let j = inner-value s at low past p in
+          let l = last-value s past high next o in
           let a = i.forward in
           let b = j.forward in
           let z = l.forward in
@@ -277,21 +273,21 @@ enough : (f : List ℕ) → is_pairs f ≡ true → length (pair_values f) ≤ 4
 unfolding is_bytes
 enough f e h = rw (e, le-leb _ _ h)
 
-module _ (s : List ℕ) (from : ℕ) (w : Opened s from 80 9) (r : Number) (e : r ≡ number_at (from + 2) (field_to 9 (drop (from + 2) s))) where
-  pub program-faulty : r ≡ NoNumber → meaning_in (cells_of (drop from s)) ≡ malformed
-  program-faulty q = ap meaning_in (fronted s from 80 (omega arith) w) ∙ program-missed (cells_of (drop (from + 2) s)) (inner-none s (from + 2) r e q)
+module _ (s : List ℕ) (from : ℕ) (w : Opened s from 80 9) where
+  pub program-faulty : None ≡ number_at (from + 2) (field_to 9 (drop (from + 2) s)) → meaning_in (cells_of (drop from s)) ≡ malformed
+  program-faulty e = ap meaning_in (fronted s from 80 (omega arith) w) ∙ program-missed (cells_of (drop (from + 2) s)) (inner-none s (from + 2) e)
 
-  module _ (offset start : ℕ) (q : r ≡ Value offset start) (t : Pairs) (d : t ≡ pairs_at start (field_to 10 (drop start s))) where
-    pub program-faulty-2 : t ≡ NoPairs → meaning_in (cells_of (drop from s)) ≡ malformed
+  module _ (offset start : ℕ) (e : Some (offset, start) ≡ number_at (from + 2) (field_to 9 (drop (from + 2) s))) where
+    pub program-faulty-2 : None ≡ pairs_at start (field_to 10 (drop start s)) → meaning_in (cells_of (drop from s)) ≡ malformed
     program-faulty-2 p =
-        let i = inner-value s (from + 2) r offset start e q in
-        ap meaning_in (fronted s from 80 (omega arith) w ∙ ap (in_front (80 ∷ [])) i.is) ∙ program-missed-2 i.f (cells_of (drop start s)) (λ g rest c. no_pairs g (pairs-none s start t d p g rest c))
+        let i = inner-value s (from + 2) offset start e in
+        ap meaning_in (fronted s from 80 (omega arith) w ∙ ap (in_front (80 ∷ [])) i.is) ∙ program-missed-2 i.f (cells_of (drop start s)) (λ g rest c. no_pairs g (pairs-none s start p g rest c))
 
-    module _ (count next : ℕ) (p : t ≡ Paired count next) where
+    module _ (count next : ℕ) (p : Some (count, next) ≡ pairs_at start (field_to 10 (drop start s))) where
       pub program-faulty-3 : 4096 < count → meaning_in (cells_of (drop from s)) ≡ malformed
       program-faulty-3 h =
-          let i = inner-value s (from + 2) r offset start e q in
-          let l = pairs-value s start t d count next p in
+          let i = inner-value s (from + 2) offset start e in
+          let l = pairs-value s start count next p in
           let n : 4096 < length (pair_values l.f) = rw (← l.count) h in
           ap meaning_in (fronted s from 80 (omega arith) w ∙ ap (in_front (80 ∷ [])) (i.is ∙ ap (in_front i.f) l.is)) ∙ program-long i.f l.f (drop next s) (too_many l.f l.pairs-are n)
         where
@@ -301,8 +297,8 @@ module _ (s : List ℕ) (from : ℕ) (w : Opened s from 80 9) (r : Number) (e : 
       pub program-taken : count ≤ 4096 → Taken s from (row_of 0 offset count 0 start count) next
       unfolding call_of
       program-taken h =
-          let i = inner-value s (from + 2) r offset start e q in
-          let l = pairs-value s start t d count next p in
+          let i = inner-value s (from + 2) offset start e in
+          let l = pairs-value s start count next p in
           let n : length (pair_values l.f) ≤ 4096 = rw (← l.count) h in
           let a = i.forward in
           let b = l.forward in

@@ -6,22 +6,20 @@ use Prim.Native.Nat.{ℕ, suc, ◌+◌, ◌*◌, ◌≤◌, ◌<◌}
 use native.Mathlib.Nat.{add-zero}
 use native.Mathlib.Omega.{arith}
 use lib.ListN.{length, get_or, drop, drop_of_length-le, length-append}
-use borrow.Author.Tests.{eq-eqb, ne_eqb, le-leb, lt-leb}
+use borrow.Author.Tests.{ne_eqb, le-leb, lt-leb}
 use Rattle.basics.proofs.Scans.{at-step}
 use Rattle.text.specs.Lines.{TextLine, ended, unended, lines_of, fields_of}
 use Rattle.script.specs.declared.Head.{Head}
-use Rattle.script.specs.declared.Line.{Line}
-use Rattle.script.specs.declared.Line.TheVariants.{Call as Called, Faulty}
 use Rattle.script.specs.declared.Row.{Row}
-use Rattle.script.specs.declared.First.{First}
-use Rattle.script.specs.declared.First.TheVariants.{Given, NoHead}
-use Rattle.script.specs.declared.Checked.{Checked}
-use Rattle.script.specs.declared.Checked.TheVariants.{Lines, Fault}
+use Rattle.script.specs.declared.ScriptError.{ScriptError}
+use Rattle.refusals.specs.declared.Refusal.TheVariants.{MalformedLine}
+use Rattle.refusals.specs.Numbers.{number_of}
+use Rattle.std.specs.Prelude.{Ok, Err}
 use Rattle.script.specs.Calls.{Call, Meaning, call, malformed, call_of, meaning_of, Reading, calls, faulty, call_then, on_meaning, read_lines}
 use Rattle.script.specs.First.{no_head, first_of_line, head_test}
 use Rattle.script.specs.Script.{refused, with_calls, with_test, with_lines, script_of}
 use Rattle.script.specs.Columns.{bytes_in, bytes_of}
-use Rattle.script.specs.Inner.{Cells, cells, broken, cells_of, meaning_in, head_in, Taken, Reads, HeadTaken, ReadsHead, checked_from, Sane}
+use Rattle.script.specs.Inner.{Cells, cells, broken, cells_of, meaning_in, head_in, Taken, HeadTaken, fault_at, checked_from, Sane}
 use Rattle.script.proofs.Cells.{cells-split, cells-broken}
 
 -- ---- one line among the lines
@@ -60,10 +58,6 @@ pub no_lines : (s : List ℕ) (at n : ℕ) → length s ≤ at → read_lines n 
 unfolding read_lines lines_of
 no_lines s at n h = rw (drop_of_length-le s {i = at} h)
 
--- a line that was read, as the reader's answer tells it
-pub row-taken : (s : List ℕ) (at : ℕ) (r : Line) (row : Row) (next : ℕ) → r ≡ Called row next → Reads s at r → Taken s at row next
-row-taken s at r row next q v = rw q at v
-
 -- ---- check_lines: what was counted, and what follows
 
 pub record Sofar (s : List ℕ) (from at n b : ℕ) : Type 0 where
@@ -81,38 +75,34 @@ count-step n b x (faulty line) = refl
 count-step n b x (calls cs) =
     let p : n + suc (length cs) ≡ n + 1 + length cs = omega arith in
     let q : b + length (bytes_in x ++ bytes_of cs) ≡ b + length (bytes_in x) + length (bytes_of cs) = omega (arith, length-append (bytes_in x) (bytes_of cs)) in
-    ap₂ Lines p q
+    ap₂ (λ (m l : ℕ). Ok (m, l)) p q
 
 module _ (s : List ℕ) (from at n b : ℕ) (w : Sofar s from at n b) where
-  pub sofar-end : length s ≤ at → Lines n b ≡ checked_from 0 0 (read_lines 2 (lines_of (drop from s)))
+  pub sofar-end : length s ≤ at → Ok (n, b) ≡ checked_from 0 0 (read_lines 2 (lines_of (drop from s)))
   unfolding bytes_of
-  sofar-end h = sym (w.is ∙ ap (checked_from n b) (no_lines s at (n + 2) h) ∙ ap₂ Lines (add-zero n) (add-zero b))
+  sofar-end h = sym (w.is ∙ ap (checked_from n b) (no_lines s at (n + 2) h) ∙ ap₂ (λ (m l : ℕ). Ok (m, l)) (add-zero n) (add-zero b))
 
-  module _ (h : at < length s) (r : Line) where
-    pub sofar-fault : r ≡ Faulty → Reads s at r → Fault (n + 2) ≡ checked_from 0 0 (read_lines 2 (lines_of (drop from s)))
-    sofar-fault q v =
-        let m : meaning_in (cells_of (drop at s)) ≡ malformed = rw q at v in
-        sym (w.is ∙ ap (checked_from n b) (line-faulty s at (n + 2) h m))
+  module _ (h : at < length s) where
+    pub sofar-fault : meaning_in (cells_of (drop at s)) ≡ malformed → Err (fault_at MalformedLine (n + 2)) ≡ checked_from 0 0 (read_lines 2 (lines_of (drop from s)))
+    sofar-fault m = sym (w.is ∙ ap (checked_from n b) (line-faulty s at (n + 2) h m))
 
-    module _ (row : Row) (next : ℕ) (q : r ≡ Called row next) (v : Reads s at r) where
-      pub sofar-next : Sofar s from next (n + 1) (b + row.size)
-      sofar-next =
-          let t = row-taken s at r row next q v in
-          let f = t.forward in
-          let m = t.small in
-          let a = w.few in
-          let c = w.small in
-          let l : n + 2 + 1 ≡ n + 1 + 2 = omega arith in
-          record {
-            is =
-                w.is
-                ∙ ap (checked_from n b) (line_taken s at row next (n + 2) t)
-                ∙ count-step n b t.it (read_lines (n + 2 + 1) (lines_of (drop next s)))
-                ∙ ap₂ (λ (d i : ℕ). checked_from (n + 1) (b + d) (read_lines i (lines_of (drop next s)))) (sym t.size_is) l;
-            inside = t.inside;
-            few = omega arith;
-            small = omega arith;
-          }
+    pub sofar-next : (row : Row) (next : ℕ) → Taken s at row next → Sofar s from next (n + 1) (b + row.size)
+    sofar-next row next t =
+        let f = t.forward in
+        let m = t.small in
+        let a = w.few in
+        let c = w.small in
+        let l : n + 2 + 1 ≡ n + 1 + 2 = omega arith in
+        record {
+          is =
+              w.is
+              ∙ ap (checked_from n b) (line_taken s at row next (n + 2) t)
+              ∙ count-step n b t.it (read_lines (n + 2 + 1) (lines_of (drop next s)))
+              ∙ ap₂ (λ (d i : ℕ). checked_from (n + 1) (b + d) (read_lines i (lines_of (drop next s)))) (sym t.size_is) l;
+          inside = t.inside;
+          few = omega arith;
+          small = omega arith;
+        }
 
 -- ---- check
 
@@ -128,54 +118,45 @@ pub whole_long : (s : List ℕ) → 65536 < length s → script_of s ≡ refused
 unfolding script_of
 whole_long s h = rw (lt-leb _ _ h)
 
-module _ (s : List ℕ) (l : length s ≤ 65536) (rf : First) where
+module _ (s : List ℕ) (l : length s ≤ 65536) where
   by_lines : script_of s ≡ with_lines (lines_of s)
   unfolding script_of
   by_lines = rw (le-leb _ _ l)
 
-  pub whole-no-head : rf ≡ NoHead → ReadsHead s rf → script_of s ≡ refused 8 1
-  whole-no-head q v =
-      let h : head_in (cells_of s) ≡ no_head = rw q at v in
-      by_lines ∙ no-head-by (cells_of s) s refl h
+  pub whole-no-head : head_in (cells_of s) ≡ no_head → script_of s ≡ refused 8 1
+  whole-no-head h = by_lines ∙ no-head-by (cells_of s) s refl h
 
-  module _ (h : Head) (body : ℕ) (q : rf ≡ Given h body) (v : ReadsHead s rf) where
-    head-taken : HeadTaken s h body
-    head-taken = rw q at v
-
-    pub body-inside : body ≤ length s
-    body-inside = head-taken.inside
-
+  module _ (h : Head) (body : ℕ) (t : HeadTaken s h body) where
     by-head : script_of s ≡ with_test (head_test h.geometry) (with_calls h (read_lines 2 (lines_of (drop body s))))
     unfolding first_of_line
     by-head =
-        let t = head-taken in
         let w = cells-split s t.field t.others (drop body s) t.is in
         by_lines ∙ ap with_lines w.is ∙ rw (w.fields, t.means)
 
-    module _ (n : ℕ) (e : n ≡ head_test h.geometry) where
-      pub whole-test : (n ≡ 0 → ⊥) → script_of s ≡ refused n 1
-      whole-test z = by-head ∙ rw (← e, ne_eqb n 0 z)
+    pub whole-test : (n : ℕ) → (n ≡ 0 → ⊥) → n ≡ head_test h.geometry → script_of s ≡ refused n 1
+    whole-test n z e = by-head ∙ rw (← e, ne_eqb n 0 z)
 
-      module _ (z : n ≡ 0) (ck : Checked) (ec : ck ≡ checked_from 0 0 (read_lines 2 (lines_of (drop body s)))) where
-        by-calls : script_of s ≡ with_calls h (read_lines 2 (lines_of (drop body s)))
-        by-calls = by-head ∙ rw (← e, eq-eqb n 0 z)
+    module _ (z : 0 ≡ head_test h.geometry) where
+      by-calls : script_of s ≡ with_calls h (read_lines 2 (lines_of (drop body s)))
+      by-calls = by-head ∙ rw (← z)
 
-        pub whole-fault : (line : ℕ) → ck ≡ Fault line → script_of s ≡ refused 8 line
-        whole-fault line c = by-calls ∙ by (read_lines 2 (lines_of (drop body s))) (sym ec ∙ c)
-          where
-            by : (R : Reading) → checked_from 0 0 R ≡ Fault line → with_calls h R ≡ refused 8 line
-            by (calls cs) x = absurd (let o : ◌≡◌ {A = ℕ} 0 1 = cc in omega arith)
-            by (faulty m) x = let y : m ≡ line = cc in rw y
+      pub whole-fault : (e : ScriptError) → Err e ≡ checked_from 0 0 (read_lines 2 (lines_of (drop body s))) → script_of s ≡ refused (number_of e.refusal) e.line
+      whole-fault e ec = by-calls ∙ by (read_lines 2 (lines_of (drop body s))) (sym ec)
+        where
+          by : (R : Reading) → checked_from 0 0 R ≡ Err e → with_calls h R ≡ refused (number_of e.refusal) e.line
+          by (calls cs) x = absurd (let o : ◌≡◌ {A = ℕ} 0 1 = cc in omega arith)
+          by (faulty m) x = let y : fault_at MalformedLine m ≡ e = cc in rw (← y)
 
-        pub whole-sound : (a b : ℕ) → ck ≡ Lines a b → Sane s h body a b
-        whole-sound a b c = by (read_lines 2 (lines_of (drop body s))) refl (sym ec ∙ c)
-          where
-            by : (R : Reading) → read_lines 2 (lines_of (drop body s)) ≡ R → checked_from 0 0 R ≡ Lines a b → Sane s h body a b
-            by (calls cs) i x =
-                let y : 0 + length cs ≡ a = cc in
-                let o : 0 + length (bytes_of cs) ≡ b = cc in
-                record { cs = cs; is = by-calls ∙ rw i; lines = i; count = omega arith; size = omega arith; inside = body-inside; short = l }
-            by (faulty m) i x = absurd (let o : ◌≡◌ {A = ℕ} 0 1 = cc in omega arith)
+      pub whole-sound : (a b : ℕ) → Ok (a, b) ≡ checked_from 0 0 (read_lines 2 (lines_of (drop body s))) → Sane s h body a b
+      whole-sound a b ec = by (read_lines 2 (lines_of (drop body s))) refl (sym ec)
+        where
+          by : (R : Reading) → read_lines 2 (lines_of (drop body s)) ≡ R → checked_from 0 0 R ≡ Ok (a, b) → Sane s h body a b
+          by (calls cs) i x =
+              let p : ◌≡◌ {A = ℕ × ℕ} (0 + length cs, 0 + length (bytes_of cs)) (a, b) = cc in
+              let y : 0 + length cs ≡ a = ap (λ (z : ℕ × ℕ). z.0) p in
+              let o : 0 + length (bytes_of cs) ≡ b = ap (λ (z : ℕ × ℕ). z.1) p in
+              record { cs = cs; is = by-calls ∙ rw i; lines = i; count = omega arith; size = omega arith; inside = t.inside; short = l }
+          by (faulty m) i x = absurd (let o : ◌≡◌ {A = ℕ} 0 1 = cc in omega arith)
 
 -- all of them, for `search (rules, passes)`
-pub ruleset passes = (sofar-start, sofar-end, sofar-fault, sofar-next, whole_long, whole-no-head, body-inside, whole-test, whole-fault, whole-sound)
+pub ruleset passes = (sofar-start, sofar-end, sofar-fault, sofar-next, whole_long, whole-no-head, whole-fault, whole-sound)

@@ -7,19 +7,16 @@ use Prim.Native.Nat.{ℕ, ◌≤◌}
 use native.Mathlib.Omega.{arith}
 use lib.ListN.{length, drop}
 use lib.Dec.{eqb, leb, ltb}
-use borrow.Author.Tests.{eq-eqb, ne_eqb, eqb-true, leb-true, le-leb, lt-leb, ltb-true, ltb-false}
+use borrow.Author.Tests.{ne_eqb, eqb-true, leb-true, le-leb, lt-leb, ltb-true, ltb-false}
 use Rattle.basics.specs.Tests.{unless, first_of}
 use Rattle.basics.proofs.Tests.{unless-zero, first_of-zero}
 use Rattle.text.specs.Lines.{lines_of}
-use Rattle.text.proofs.Plain.{both}
+use Rattle.std.proofs.lemmas.Bool.{and_parts}
 use Rattle.script.specs.declared.Head.{Head}
-use Rattle.script.specs.declared.Whole.{Whole}
-use Rattle.script.specs.declared.Whole.TheVariants.{Good, Bad}
-use Rattle.script.specs.declared.ReadScript.TheVariants.{Read, Refused}
 use Rattle.script.specs.Calls.{Call, read_lines}
 use Rattle.script.specs.Script.{script, refused, script_of}
-use Rattle.script.specs.Columns.{Columns, columns, bytes_of, written, room_for, room_test, count_of, after, read_into}
-use Rattle.script.specs.Inner.{Sane, Checks, Ready, calls_read}
+use Rattle.script.specs.Columns.{Columns, columns, bytes_of, written, five_uneven, Read, Refused, room_for, room_test, count_of, after, read_into}
+use Rattle.script.specs.Inner.{Sane, Ready, calls_read}
 use Rattle.script.proofs.Enough.{enough}
 
 -- ---- room_refusal
@@ -53,11 +50,11 @@ enough-by false true e = sym e
 enough-by false false e = refl
 
 module _ (k a b c s p n m : ℕ) where
-  pub room-unequal : (not (eqb a k) || not (eqb b k) || not (eqb c k) || not (eqb s k)) ≡ true → 12 ≡ room_for k a b c s p n m
+  pub room-unequal : five_uneven k a b c s ≡ true → 12 ≡ room_for k a b c s p n m
   unfolding room_for first_of unless
   room-unequal e = rw (unequal-by (eqb a k) (eqb b k) (eqb c k) (eqb s k) e)
 
-  module _ (e : (not (eqb a k) || not (eqb b k) || not (eqb c k) || not (eqb s k)) ≡ false) where
+  module _ (e : five_uneven k a b c s ≡ false) where
     pub room-short : (ltb k n || ltb p m) ≡ true → 13 ≡ room_for k a b c s p n m
     unfolding room_for first_of unless
     room-short q = rw (equal_by (eqb a k) (eqb b k) (eqb c k) (eqb s k) e, turned (ltb k n) k n refl, turned (ltb p m) p m refl, short-by (ltb k n) (ltb p m) q)
@@ -80,73 +77,66 @@ unfolding room_for
 equal k a b c s p n m e =
     let one = first_of-zero (unless (eqb a k && (eqb b k && (eqb c k && eqb s k))) 12) (unless (leb n k && leb m p) 13 ∷ []) e in
     let two = first_of-zero (unless (leb n k && leb m p) 13) [] one.1 in
-    let x = both (eqb a k) (eqb b k && (eqb c k && eqb s k)) (unless-zero _ 11 one.0) in
-    let y = both (eqb b k) (eqb c k && eqb s k) x.1 in
-    let z = both (eqb c k) (eqb s k) y.1 in
-    let w = both (leb n k) (leb m p) (unless-zero _ 12 two.0) in
+    let x = and_parts (eqb a k) (eqb b k && (eqb c k && eqb s k)) (unless-zero _ 11 one.0) in
+    let y = and_parts (eqb b k) (eqb c k && eqb s k) x.1 in
+    let z = and_parts (eqb c k) (eqb s k) y.1 in
+    let w = and_parts (leb n k) (leb m p) (unless-zero _ 12 two.0) in
     record { firsts = eqb-true a k x.0; seconds = eqb-true b k y.0; thirds = eqb-true c k z.0; starts = eqb-true s k z.1; rows = leb-true n k w.0; bytes = leb-true m p w.1 }
 
 -- ---- count_calls and read_script
 
-module _ (s : List ℕ) (r : Whole) where
-  pub count-bad : (n line : ℕ) → r ≡ Bad n line → Checks s r → Refused n line ≡ count_of (script_of s)
-  count-bad n line q v = let e : script_of s ≡ refused n line = rw q at v in rw e
+pub count-bad : (s : List ℕ) (n line : ℕ) → script_of s ≡ refused n line → Refused n line ≡ count_of (script_of s)
+count-bad s n line e = rw e
 
-  pub read-bad : (n line : ℕ) → r ≡ Bad n line → Checks s r → (k : Columns) → after (Refused n line) k ≡ read_into s k
-  unfolding read_into
-  read-bad n line q v k = let e : script_of s ≡ refused n line = rw q at v in rw e
+pub read-bad : (s : List ℕ) (n line : ℕ) → script_of s ≡ refused n line → (k : Columns) → after (Refused n line) k ≡ read_into s k
+unfolding read_into
+read-bad s n line e k = rw e
 
-  module _ (h : Head) (body n b : ℕ) (q : r ≡ Good h body n b) (v : Checks s r) where
-    sane : Sane s h body n b
-    sane = rw q at v
+module _ (s : List ℕ) (h : Head) (body n b : ℕ) (w : Sane s h body n b) where
+  pub count-good : Read h n b ≡ count_of (script_of s)
+  count-good = ap₂ (Read h) w.count w.size ∙ sym (ap count_of w.is)
 
-    pub count-good : Read h n b ≡ count_of (script_of s)
-    count-good = let w = sane in ap₂ (Read h) w.count w.size ∙ sym (ap count_of w.is)
+  module _ (k : Columns) where
+    test : room_test k (length w.cs) (length (bytes_of w.cs)) ≡ room_test k n b
+    test = rw (← w.count, ← w.size)
 
-    module _ (kinds firsts seconds thirds starts pool : List ℕ) (m : ℕ) (e : m ≡ room_for (length kinds) (length firsts) (length seconds) (length thirds) (length starts) (length pool) n b) where
-      test : room_test (columns kinds firsts seconds thirds starts pool) (length sane.cs) (length (bytes_of sane.cs)) ≡ m
-      test = let w = sane in rw (← w.count, ← w.size) (sym e)
+    pub read-no-room : (m : ℕ) → (m ≡ 0 → ⊥) → m ≡ room_test k n b → after (Refused m 0) k ≡ read_into s k
+    unfolding read_into
+    read-no-room m z e = rw (w.is, test, ← e, ne_eqb m 0 z)
 
-      pub read-no-room : (m ≡ 0 → ⊥) → after (Refused m 0) (columns kinds firsts seconds thirds starts pool) ≡ read_into s (columns kinds firsts seconds thirds starts pool)
+    module _ (e : 0 ≡ room_test k n b) where
+      pub read-ready : Ready s body k (calls_read (read_lines 2 (lines_of (drop body s))))
+      read-ready =
+          let x = equal (length k.kinds) (length k.firsts) (length k.seconds) (length k.thirds) (length k.starts) (length k.pool) n b (sym e) in
+          let o = enough s h w.cs w.is in
+          let c = w.count in
+          let d = w.size in
+          let r₀ = x.rows in
+          let r₁ = x.firsts in
+          let r₂ = x.seconds in
+          let r₃ = x.thirds in
+          let r₄ = x.starts in
+          let r₅ = x.bytes in
+          rw w.lines
+          (record {
+            lines = w.lines;
+            kinds = omega arith;
+            firsts = omega arith;
+            seconds = omega arith;
+            thirds = omega arith;
+            starts = omega arith;
+            pool = omega arith;
+            rows = o.rows;
+            few = o.bytes;
+            inside = w.inside;
+          })
+
+      pub read_done : (l : Columns) → l ≡ written (calls_read (read_lines 2 (lines_of (drop body s)))) k → after (Read h n b) l ≡ read_into s k
       unfolding read_into
-      read-no-room z = rw (sane.is, test, ne_eqb m 0 z)
-
-      module _ (z : m ≡ 0) where
-        pub read-ready : Ready s body (columns kinds firsts seconds thirds starts pool) (calls_read (read_lines 2 (lines_of (drop body s))))
-        read-ready =
-            let w = sane in
-            let x = equal (length kinds) (length firsts) (length seconds) (length thirds) (length starts) (length pool) n b (sym e ∙ z) in
-            let o = enough s h w.cs w.is in
-            let c = w.count in
-            let d = w.size in
-            let r₀ = x.rows in
-            let r₁ = x.firsts in
-            let r₂ = x.seconds in
-            let r₃ = x.thirds in
-            let r₄ = x.starts in
-            let r₅ = x.bytes in
-            rw w.lines
-            (record {
-              lines = w.lines;
-              kinds = omega arith;
-              firsts = omega arith;
-              seconds = omega arith;
-              thirds = omega arith;
-              starts = omega arith;
-              pool = omega arith;
-              rows = o.rows;
-              few = o.bytes;
-              inside = w.inside;
-            })
-
-        pub read_done : (k : Columns) → k ≡ written (calls_read (read_lines 2 (lines_of (drop body s)))) (columns kinds firsts seconds thirds starts pool)
-            → after (Read h n b) k ≡ read_into s (columns kinds firsts seconds thirds starts pool)
-        unfolding read_into
-        read_done k f =
-            let w = sane in
-            let g : k ≡ written w.cs (columns kinds firsts seconds thirds starts pool) = f ∙ rw w.lines in
-            let i : Read h n b ≡ Read h (length w.cs) (length (bytes_of w.cs)) = ap₂ (Read h) w.count w.size in
-            rw (w.is, test, eq-eqb m 0 z, ← g, ← i)
+      read_done l f =
+          let g : l ≡ written w.cs k = f ∙ rw w.lines in
+          let i : Read h n b ≡ Read h (length w.cs) (length (bytes_of w.cs)) = ap₂ (Read h) w.count w.size in
+          rw (w.is, test, ← e, ← g, ← i)
 
 -- ---- columns that are long enough
 
@@ -162,4 +152,4 @@ never-short s h cs kinds firsts seconds thirds starts pool e k a b c t p =
     simp (e, k, a, b, c, t, p, le-leb _ _ x, le-leb _ _ y)
 
 -- all of them, for `search (rules, rooms)`
-pub ruleset rooms = (room-unequal, room-short, room-enough, count-bad, count-good, read-bad, read-no-room, read-ready, read_done)
+pub ruleset rooms = (room-unequal, room-short, room-enough, count-bad, count-good, read-bad, read-ready, read_done)

@@ -18,6 +18,7 @@ use Rattle.script.specs.Calls.{Call, begin, end, mark, program, erase, barrier, 
 use Rattle.script.specs.First.{given, head_is, headed, head_of, first_of_line}
 use Rattle.script.specs.Script.{script, script_of}
 use Rattle.script.specs.Print.{joined, fields_in, print_calls, head_fields, printed, Sayable, AllSayable, Sound}
+use Rattle.script.proofs.Cells.{above-ne}
 use Rattle.script.proofs.Passes.{line-by}
 
 -- ---- fields without tab and LF, joined
@@ -25,9 +26,6 @@ use Rattle.script.proofs.Passes.{line-by}
 abbrev AllPlain : List (List ℕ) → Type 0
 AllPlain [] = Unit {0}
 AllPlain (f ∷ fs) = Plain f × AllPlain fs
-
-above-ne : (x n : ℕ) → n ≤ 10 → 10 < x → x ≡ n → ⊥
-above-ne x n h k e = omega arith
 
 fields-plain : (f : List ℕ) → Plain f → fields_of f ≡ f ∷ []
 unfolding fields_of

@@ -1,10 +1,9 @@
 -- The lent columns, a row for each call, and the lent pool, which holds the bytes of all programs one after the other.
 -- Definitions only; assumes nothing.
-use Rattle.std.specs.Prelude.{cond, ◌&&◌, List, [], ◌∷◌, ◌++◌, map, ℕ, ◌+◌, length, eqb, leb}
+use Rattle.std.specs.Prelude.{Bool, cond, not, ◌&&◌, ◌||◌, List, [], ◌∷◌, ◌++◌, map, ℕ, ◌+◌, length, eqb, leb}
 use Rattle.basics.specs.Tests.{unless, first_of}
 use Rattle.text.specs.Pairs.{over}
-use Rattle.script.specs.declared.ReadScript.{ReadScript}
-use Rattle.script.specs.declared.ReadScript.TheVariants.{Read, Refused}
+use Rattle.script.specs.declared.Head.{Head}
 use Rattle.script.specs.Calls.{Call, begin, end, mark, program, erase, barrier}
 use Rattle.script.specs.Script.{Script, script, refused, script_of}
 
@@ -18,6 +17,13 @@ pub record Columns : Type 0 where
 
 abbrev pub columns : (kinds firsts seconds thirds starts pool : List ℕ) → Columns
 columns k a b c s p = record { kinds = k; firsts = a; seconds = b; thirds = c; starts = s; pool = p }
+
+-- "columns of one list unequal", over their lengths
+abbrev pub five_uneven : (kinds firsts seconds thirds starts : ℕ) → Bool
+five_uneven k a b c s = not (eqb a k) || not (eqb b k) || not (eqb c k) || not (eqb s k)
+
+abbrev pub uneven_of : Columns → Bool
+uneven_of k = five_uneven (length k.kinds) (length k.firsts) (length k.seconds) (length k.thirds) (length k.starts)
 
 -- ---- the row of a call
 
@@ -100,6 +106,12 @@ room_for kinds firsts seconds thirds starts pool calls bytes =
 abbrev pub room_test : Columns → (calls bytes : ℕ) → ℕ
 room_test k calls bytes =
     room_for (length k.kinds) (length k.firsts) (length k.seconds) (length k.thirds) (length k.starts) (length k.pool) calls bytes
+
+-- what reading answers: line 1, how many calls and how many bytes; or the paper's number and the line, which is 0 where the fault is
+-- in no line
+pub data ReadScript : Type 0 where
+  Read : (head : Head) (calls bytes : ℕ) → ReadScript
+  Refused : (number line : ℕ) → ReadScript
 
 -- how many calls a script has, and how many bytes they bring; or its number and line
 abbrev pub count_of : Script → ReadScript

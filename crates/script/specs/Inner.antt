@@ -1,24 +1,19 @@
 -- What private functions answer. No public contract cites these.
 -- Definitions only; assumes nothing.
-use Rattle.std.specs.Prelude.{◌≡◌, cond, List, [], ◌∷◌, ℕ, ◌+◌, ◌-◌, ◌≤◌, ◌<◌, length, take, drop, eqb}
+use Rattle.std.specs.Prelude.{◌≡◌, Option, Some, None, Result, Ok, Err, cond, List, [], ◌∷◌, ℕ, ◌+◌, ◌-◌, ◌≤◌, ◌<◌, length, take, drop, eqb}
 use Rattle.basics.specs.Parts.{part, overlaid}
 use Rattle.storage.specs.declared.Geometry.{Geometry}
+use Rattle.refusals.specs.declared.Refusal.{Refusal}
+use Rattle.refusals.specs.declared.Refusal.TheVariants.{MalformedLine}
+use Rattle.refusals.specs.Numbers.{number_of as refusal_number}
 use Rattle.text.specs.Lines.{lines_of}
 use Rattle.text.specs.Numbers.{number, number_of}
 use Rattle.text.specs.Pairs.{pair_values}
 use Rattle.hex_pairs.specs.Answers.{decoded}
 use Rattle.script.specs.declared.Head.{Head}
-use Rattle.script.specs.declared.Line.{Line}
-use Rattle.script.specs.declared.Line.TheVariants.{Call as Called, Faulty}
 use Rattle.script.specs.declared.Row.{Row}
-use Rattle.script.specs.declared.Units.{Units}
-use Rattle.script.specs.declared.Units.TheVariants.{Four, NoUnits}
-use Rattle.script.specs.declared.First.{First}
-use Rattle.script.specs.declared.First.TheVariants.{Given, NoHead}
-use Rattle.script.specs.declared.Checked.{Checked}
-use Rattle.script.specs.declared.Checked.TheVariants.{Lines, Fault}
-use Rattle.script.specs.declared.Whole.{Whole}
-use Rattle.script.specs.declared.Whole.TheVariants.{Good, Bad}
+use Rattle.script.specs.declared.Script.{Script as Told}
+use Rattle.script.specs.declared.ScriptError.{ScriptError}
 use Rattle.script.specs.Calls.{Call, Meaning, call, malformed, call_of, Reading, calls, faulty, read_lines}
 use Rattle.script.specs.First.{FirstLine, given, no_head, headed, head_of}
 use Rattle.script.specs.Script.{script, refused, script_of}
@@ -84,9 +79,9 @@ pub record Taken (s : List ℕ) (from : ℕ) (row : Row) (next : ℕ) : Type 0 w
   pub forward : from < next
   pub inside : next ≤ length s
 
-abbrev pub Reads : List ℕ → (from : ℕ) → Line → Type 0
-Reads s from (Called row next) = Taken s from row next
-Reads s from Faulty = meaning_in (cells_of (drop from s)) ≡ malformed
+abbrev pub Reads : List ℕ → (from : ℕ) → Option (Row × ℕ) → Type 0
+Reads s from (Some (row, next)) = Taken s from row next
+Reads s from None = meaning_in (cells_of (drop from s)) ≡ malformed
 
 -- ---- line 1
 
@@ -108,9 +103,9 @@ pub record FourTaken (s : List ℕ) (at : ℕ) (g : Geometry) (next : ℕ) : Typ
 pub record Unread (s : List ℕ) (at : ℕ) : Type 0 where
   pub is_none : (k c e p r j w rest : List ℕ) → cells_of (drop at s) ≡ cells c (e ∷ p ∷ r ∷ j ∷ w ∷ []) rest → headed k c e p r j w ≡ no_head
 
-abbrev pub ReadsUnits : List ℕ → (at : ℕ) → Units → Type 0
-ReadsUnits s at (Four g next) = FourTaken s at g next
-ReadsUnits s at NoUnits = Unread s at
+abbrev pub ReadsUnits : List ℕ → (at : ℕ) → Option (Geometry × ℕ) → Type 0
+ReadsUnits s at (Some (g, next)) = FourTaken s at g next
+ReadsUnits s at None = Unread s at
 
 pub record HeadTaken (s : List ℕ) (h : Head) (next : ℕ) : Type 0 where
   pub field : List ℕ
@@ -119,16 +114,19 @@ pub record HeadTaken (s : List ℕ) (h : Head) (next : ℕ) : Type 0 where
   pub means : head_of (field ∷ others) ≡ given h
   pub inside : next ≤ length s
 
-abbrev pub ReadsHead : List ℕ → First → Type 0
-ReadsHead s (Given h next) = HeadTaken s h next
-ReadsHead s NoHead = head_in (cells_of s) ≡ no_head
+abbrev pub ReadsHead : List ℕ → Option (Head × ℕ) → Type 0
+ReadsHead s (Some (h, next)) = HeadTaken s h next
+ReadsHead s None = head_in (cells_of s) ≡ no_head
 
 -- ---- the checking pass
 
--- counts of what went before, and of what follows
-abbrev pub checked_from : (calls bytes : ℕ) → Reading → Checked
-checked_from n b (calls cs) = Lines (n + length cs) (b + length (bytes_of cs))
-checked_from n b (faulty line) = Fault line
+abbrev pub fault_at : Refusal → (line : ℕ) → ScriptError
+fault_at refusal line = record { refusal = refusal; line = line }
+
+-- counts of what went before, and of what follows; or the first faulty line
+abbrev pub checked_from : (calls bytes : ℕ) → Reading → Result (ℕ × ℕ) ScriptError
+checked_from n b (calls cs) = Ok (n + length cs, b + length (bytes_of cs))
+checked_from n b (faulty line) = Err (fault_at MalformedLine line)
 
 -- a script that is not refused: where its second line starts, how many calls it has and how many bytes they bring
 pub record Sane (s : List ℕ) (h : Head) (body n b : ℕ) : Type 0 where
@@ -140,9 +138,9 @@ pub record Sane (s : List ℕ) (h : Head) (body n b : ℕ) : Type 0 where
   pub inside : body ≤ length s
   pub short : length s ≤ 65536
 
-abbrev pub Checks : List ℕ → Whole → Type 0
-Checks s (Good h body n b) = Sane s h body n b
-Checks s (Bad n line) = script_of s ≡ refused n line
+abbrev pub Checks : List ℕ → Result (Told × ℕ) ScriptError → Type 0
+Checks s (Ok (t, body)) = Sane s t.head body t.calls t.bytes
+Checks s (Err e) = script_of s ≡ refused (refusal_number e.refusal) e.line
 
 -- ---- the filling pass
 

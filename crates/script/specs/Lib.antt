@@ -4,6 +4,7 @@ pub mod Calls
 pub mod First
 pub mod Script
 pub mod Columns
+pub mod Lent
 pub mod Held
 pub mod Print
 pub mod Inner

@@ -9,8 +9,8 @@
 
 ghost use Rattle.std.specs.Prelude.{◌<◌, ◌≤◌, length};
 
-use basics::store_u8;
-use script::{Head, ReadScript};
+use basics::Numbered;
+use script::{CallsMut, CallsRef, Head, Script, ScriptError};
 use std::io;
 
 // A script with a line of every kind: the copies are damaged at each of its places.
@@ -20,10 +20,6 @@ const EVERY_KIND: [u8; 56] =
 // A blank and a number.
 fn print(rt: &impl Print, n: u32) -> io::Result<()> {
     print!(rt; " {n}")
-}
-
-fn print_flag(rt: &impl Print, flag: bool) -> io::Result<()> {
-    if flag { print(rt, 1) } else { print(rt, 0) }
 }
 
 // A byte of a text; a tab, an LF and a CR as they are written in a program.
@@ -37,26 +33,22 @@ fn print_byte(rt: &impl Print, byte: u8) -> io::Result<()> {
 }
 
 fn print_text(rt: &impl Print, text: &[u8]) -> io::Result<()> {
-    for i in 0..text.len() {
-        print_byte(rt, text[i])?;
+    for byte in text {
+        print_byte(rt, *byte)?;
     }
     Ok(())
 }
 
 fn print_numbers(rt: &impl Print, column: &[u32]) -> io::Result<()> {
-    for i in 0..column.len() {
-        print(rt, column[i])?;
+    for n in column {
+        print(rt, *n)?;
     }
     Ok(())
 }
 
-fn print_cell(rt: &impl Print, cell: u8) -> io::Result<()> {
-    print(rt, cell as u32)
-}
-
 fn print_bytes(rt: &impl Print, column: &[u8]) -> io::Result<()> {
-    for i in 0..column.len() {
-        print_cell(rt, column[i])?;
+    for byte in column {
+        print(rt, u32::from(*byte))?;
     }
     Ok(())
 }
@@ -66,70 +58,57 @@ fn print_head(rt: &impl Print, head: Head) -> io::Result<()> {
     print(rt, head.geometry.erase_size)?;
     print(rt, head.geometry.program_size)?;
     print(rt, head.geometry.read_size)?;
-    print_flag(rt, head.rejected)?;
-    print_flag(rt, head.carries_on)
+    print(rt, u32::from(head.rejected))?;
+    print(rt, u32::from(head.carries_on))
 }
 
-fn print_answer(rt: &impl Print, answer: ReadScript) -> io::Result<()> {
+fn print_answer(rt: &impl Print, answer: Result<Script, ScriptError>) -> io::Result<()> {
     rt.write_all(b" A")?;
     match answer {
-        ReadScript::Read { head, calls, bytes } => {
+        Ok(script) => {
             print(rt, 0)?;
             print(rt, 0)?;
-            print_head(rt, head)?;
-            print(rt, calls)?;
-            print(rt, bytes)
+            print_head(rt, script.head)?;
+            print(rt, script.calls)?;
+            print(rt, script.bytes)
         }
-        ReadScript::Refused { number, line } => {
-            print(rt, number)?;
-            print(rt, line)
+        Err(error) => {
+            print(rt, error.refusal.number())?;
+            print(rt, error.line)
         }
     }
 }
 
-fn print_columns(
-    rt: &impl Print,
-    kinds: &[u8],
-    firsts: &[u32],
-    seconds: &[u32],
-    thirds: &[u32],
-    starts: &[u32],
-    pool: &[u8],
-) -> io::Result<()> {
+fn print_columns(rt: &impl Print, calls: &CallsRef<'_>) -> io::Result<()> {
     rt.write_all(b" K")?;
-    print_bytes(rt, kinds)?;
+    print_bytes(rt, calls.kinds)?;
     rt.write_all(b" F")?;
-    print_numbers(rt, firsts)?;
+    print_numbers(rt, calls.firsts)?;
     rt.write_all(b" S")?;
-    print_numbers(rt, seconds)?;
+    print_numbers(rt, calls.seconds)?;
     rt.write_all(b" T")?;
-    print_numbers(rt, thirds)?;
+    print_numbers(rt, calls.thirds)?;
     rt.write_all(b" B")?;
-    print_numbers(rt, starts)?;
+    print_numbers(rt, calls.starts)?;
     rt.write_all(b" P")?;
-    print_bytes(rt, pool)?;
+    print_bytes(rt, calls.pool)?;
     rt.write_all(b"\n")
 }
 
 // A text read into columns of eight cells, one of which the caller lends, and a pool of eight.
 fn read_case(rt: &impl Print, text: &[u8], thirds: &mut [u32]) -> io::Result<()> {
-    let mut kinds = [9u8; 8];
-    let mut firsts = [9u32; 8];
-    let mut seconds = [9u32; 8];
-    let mut starts = [9u32; 8];
-    let mut pool = [9u8; 8];
-    let answer = script::read_script(
-        text,
-        &mut kinds,
-        &mut firsts,
-        &mut seconds,
+    let mut calls = CallsMut {
+        kinds: &mut [9; 8],
+        firsts: &mut [9; 8],
+        seconds: &mut [9; 8],
         thirds,
-        &mut starts,
-        &mut pool,
-    );
+        starts: &mut [9; 8],
+        pool: &mut [9; 8],
+    };
+    let answer = script::read_script(text, &mut calls);
     print_text(rt, text)?;
     print_answer(rt, answer)?;
-    print_columns(rt, &kinds, &firsts, &seconds, thirds, &starts, &pool)
+    print_columns(rt, &calls.seen())
 }
 
 fn script_case(rt: &impl Print, text: &[u8]) -> io::Result<()> {
@@ -150,28 +129,10 @@ fn count_case(rt: &impl Print, text: &[u8]) -> io::Result<()> {
     rt.write_all(b"\n")
 }
 
-// Where the text that starts at a place ends.
-fn end_of(texts: &[u8], from: usize) -> usize
-    requires { from ≤ length texts.now }
-    ensures { (from ≤ result) × (result ≤ length texts.now) }
-{
-    let mut i = from;
-    while i < texts.len() {
-        if texts[i] == b';' {
-            return i;
-        }
-        i += 1;
-    }
-    i
-}
-
-// Texts, each ended by a semicolon.
+// Texts, parted by semicolons.
 fn text_cases(rt: &impl Print, texts: &[u8]) -> io::Result<()> {
-    let mut at = 0;
-    while at < texts.len() {
-        let end = end_of(texts, at);
-        script_case(rt, &texts[at..end])?;
-        at = end + 1;
+    for text in texts.split(|byte| *byte == b';') {
+        script_case(rt, text)?;
     }
     Ok(())
 }
@@ -183,7 +144,7 @@ fn good_cases(rt: &impl Print) -> io::Result<()> {
         b"G\t4\t4\t1\t1\ta\ts\nB\t7\nP\t0\t00\nS\nN\n;\
         G\t16384\t16384\t16384\t16384\tr\ts\n;\
         G\t4\t4\t1\t1\ta\tc\nB\t0\nB\t4294967295\nM\t4294967295\t4294967295\t4294967295\n;\
-        G\t4\t4\t1\t1\ta\tc\nE\t4294967295\t4294967295\nE\t0\t0\nP\t4294967295\t0123456789abcdef\n;",
+        G\t4\t4\t1\t1\ta\tc\nE\t4294967295\t4294967295\nE\t0\t0\nP\t4294967295\t0123456789abcdef\n",
     )
 }
 
@@ -210,7 +171,7 @@ fn head_cases(rt: &impl Print) -> io::Result<()> {
         G\t4294967295\t1\t1\t1\ta\ts\n;\
         G\t0\t3\t4\t4\ta\tx\n;\
         G\t0\t3\t4\t4\ta\ts\nx\n;\
-        G\t16388\t4\t4\t4\ta\ts\nx\n;",
+        G\t16388\t4\t4\t4\ta\ts\nx\n",
     )
 }
 
@@ -236,7 +197,7 @@ fn line_cases(rt: &impl Print) -> io::Result<()> {
         G\t4\t4\t1\t1\ta\ts\nP\t1\n;\
         G\t4\t4\t1\t1\ta\ts\nP\t1\t00\t00\n;\
         G\t4\t4\t1\t1\ta\ts\nB\t1\nS\nN\nB\t2\nS\nN\nB\t3\nS\nN;\
-        G\t4\t4\t1\t1\ta\ts\nN\nN\nN\nN\nN\nN\nN\nN\nN\nN\n;",
+        G\t4\t4\t1\t1\ta\ts\nN\nN\nN\nN\nN\nN\nN\nN\nN\nN\n",
     )
 }
 
@@ -263,7 +224,7 @@ fn field_cases(rt: &impl Print) -> io::Result<()> {
         G\t4\t4\t1\t1\ta\ts\nP\t0\t/0\n;\
         G\t4\t4\t1\t1\ta\ts\nP\t0\t:0\n;\
         G\t4\t4\t1\t1\ta\ts\nP\t0\t`0\n;\
-        G\t4\t4\t1\t1\ta\ts\nP\t0\t00 \n;",
+        G\t4\t4\t1\t1\ta\ts\nP\t0\t00 \n",
     )
 }
 
@@ -275,7 +236,7 @@ fn room_cases(rt: &impl Print) -> io::Result<()> {
         b"G\t4\t4\t1\t1\ta\ts\nN\nN\nN\nN\nN\nN\nN\nS\n;\
         G\t4\t4\t1\t1\ta\ts\nN\nN\nN\nN\nN\nN\nN\nS\nS\n;\
         G\t4\t4\t1\t1\ta\ts\nP\t0\t0001020304050607\n;\
-        G\t4\t4\t1\t1\ta\ts\nP\t0\t0001020304050607\nP\t1\t08\n;",
+        G\t4\t4\t1\t1\ta\ts\nP\t0\t0001020304050607\nP\t1\t08\n",
     )?;
     uneven_case(rt, b"G\t4\t4\t1\t1\ta\ts\nS\n")?;
     uneven_case(rt, b"G\t4\t4\t1\t1\ta\ts\nN\nN\nN\nN\nN\nN\nN\nS\nS\n")?;
@@ -334,21 +295,14 @@ fn all_damaged(rt: &impl Print) -> io::Result<()> {
     Ok(())
 }
 
-// Puts a text over the front of another.
-fn put(text: &mut [u8], front: &[u8]) {
-    for i in 0..front.len() {
-        store_u8(text, i, front[i]);
-    }
-}
-
 // Programs of 4,096 and 4,097 bytes, texts of 65,536 and 65,537.
 fn limit_cases(rt: &impl Print) -> io::Result<()> {
     let mut most = [b'0'; 8211];
-    put(&mut most, b"G\t4\t4\t1\t1\ta\ts\nP\t0\t");
+    most[..18].copy_from_slice(b"G\t4\t4\t1\t1\ta\ts\nP\t0\t");
     most[8210] = b'\n';
     count_case(rt, &most)?;
     let mut more = [b'0'; 8213];
-    put(&mut more, b"G\t4\t4\t1\t1\ta\ts\nP\t0\t");
+    more[..18].copy_from_slice(b"G\t4\t4\t1\t1\ta\ts\nP\t0\t");
     more[8212] = b'\n';
     count_case(rt, &more)?;
     count_case(rt, &[b'\n'; 65536])?;

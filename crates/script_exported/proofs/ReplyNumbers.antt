@@ -2,8 +2,7 @@
 use mathlib.Core.Path.{◌≡◌, ap, ◌∙◌}
 use mathlib.Core.List.{List}
 use Prim.Native.Nat.{ℕ}
-use Rattle.script.specs.declared.ReadScript.{ReadScript}
-use Rattle.script.specs.Columns.{Columns, After, after}
+use Rattle.script.specs.Columns.{Columns, ReadScript, After, after}
 use Rattle.script_exported.specs.Reply.{reply_cells}
 
 pub read_told : (cells : List ℕ) (r : ReadScript) (k : Columns) (a : After) → after r k ≡ a → cells ≡ reply_cells r

@@ -2,8 +2,7 @@
 -- an erase is rejected, whether the writer carries on, how many calls and how many bytes. Definitions only; assumes nothing.
 use Rattle.std.specs.Prelude.{Bool, cond, List, [], ◌∷◌, ℕ}
 use Rattle.script.specs.declared.Head.{Head}
-use Rattle.script.specs.declared.ReadScript.{ReadScript}
-use Rattle.script.specs.declared.ReadScript.TheVariants.{Read, Refused}
+use Rattle.script.specs.Columns.{ReadScript, Read, Refused}
 
 -- a flag is 1 where it is set
 abbrev pub flag_cell : Bool → ℕ

@@ -7,26 +7,17 @@
 ghost use Rattle.std.specs.Prelude.{◌≡◌};
 ghost use Rattle.script.specs.Script.{script_of};
 ghost use Rattle.script.specs.Columns.{columns, count_of, read_into};
-ghost use Rattle.script_exported.specs.Reply.{flag_cell, read_cells, reply_cells};
+ghost use Rattle.script.specs.Lent.{reply_of};
+ghost use Rattle.script_exported.specs.Reply.{read_cells, reply_cells};
 
-use script::{Head, ReadScript};
-
-// A flag as a number: 1 where it is set.
-fn flag_cell(flag: bool) -> u32
-    ensures { result ≡ flag_cell flag }
-{
-    if flag {
-        return 1;
-    }
-    0
-}
+use basics::Numbered;
+use script::{CallsMut, Script, ScriptError};
 
 // The cells of a script that was read.
-fn read_cells(head: Head, calls: u32, bytes: u32) -> [u32; 10]
-    ensures { result ≡ read_cells head calls bytes }
+fn read_cells(script: Script) -> [u32; 10]
+    ensures { result ≡ read_cells script.head script.calls script.bytes }
 {
-    let rejected = flag_cell(head.rejected);
-    let carries_on = flag_cell(head.carries_on);
+    let head = script.head;
     let geometry = head.geometry;
     [
         0,
@@ -35,20 +26,20 @@ fn read_cells(head: Head, calls: u32, bytes: u32) -> [u32; 10]
         geometry.erase_size,
         geometry.program_size,
         geometry.read_size,
-        rejected,
-        carries_on,
-        calls,
-        bytes,
+        u32::from(head.rejected),
+        u32::from(head.carries_on),
+        script.calls,
+        script.bytes,
     ]
 }
 
 // The cells of an answer.
-fn reply_cells(answer: ReadScript) -> [u32; 10]
-    ensures { result ≡ reply_cells answer }
+fn reply_cells(answer: Result<Script, ScriptError>) -> [u32; 10]
+    ensures { result ≡ reply_cells (reply_of answer) }
 {
     match answer {
-        ReadScript::Read { head, calls, bytes } => read_cells(head, calls, bytes),
-        ReadScript::Refused { number, line } => [number, line, 0, 0, 0, 0, 0, 0, 0, 0],
+        Ok(script) => read_cells(script),
+        Err(error) => [error.refusal.number(), error.line, 0, 0, 0, 0, 0, 0, 0, 0],
     }
 }
 
@@ -57,8 +48,7 @@ fn reply_cells(answer: ReadScript) -> [u32; 10]
 pub extern "C" fn script_count_calls(text: &[u8], reply: &mut [u32; 10])
     ensures { reply.new ≡ reply_cells (count_of (script_of text.now)) }
 {
-    let counted = script::count_calls(text);
-    *reply = reply_cells(counted);
+    *reply = reply_cells(script::count_calls(text));
 }
 
 // `read_script`: the same, and a row for each call in the five columns and the bytes of all programs in the pool; a refusal
@@ -76,6 +66,13 @@ pub extern "C" fn script_read_script(
 )
     ensures { (reply.new ≡ reply_cells (read_into text.now (columns kinds.old firsts.old seconds.old thirds.old starts.old pool.old)).reply) × (columns kinds.new firsts.new seconds.new thirds.new starts.new pool.new ≡ (read_into text.now (columns kinds.old firsts.old seconds.old thirds.old starts.old pool.old)).columns) }
 {
-    let answer = script::read_script(text, kinds, firsts, seconds, thirds, starts, pool);
-    *reply = reply_cells(answer);
+    let mut calls = CallsMut {
+        kinds,
+        firsts,
+        seconds,
+        thirds,
+        starts,
+        pool,
+    };
+    *reply = reply_cells(script::read_script(text, &mut calls));
 }

@@ -17,15 +17,13 @@ use Rattle.basics.proofs.Tests.{first_of-zero}
 use Rattle.storage.specs.Geometry.{geometry_test}
 use Rattle.inject.specs.declared.Injection.{Injection}
 use Rattle.landing.specs.declared.Stop.TheVariants.{Running}
-use Rattle.landing.specs.declared.Ending.{Ending}
-use Rattle.landing.specs.Ending.{stop_number}
+use Rattle.landing.specs.Ending.{Ending, stop_number}
 use Rattle.session.specs.declared.Told.{Told}
-use Rattle.session.specs.declared.Armed.{Armed}
-use Rattle.session.specs.declared.Armed.TheVariants.{Nothing, At}
+use Rattle.std.specs.Prelude.{None as Nothing, Some as At}
 use Rattle.session.specs.declared.Counters.{Counters}
 use Rattle.session.specs.Log.{Log, logged}
 use Rattle.session.specs.Tests.{log_test, operation_test}
-use Rattle.session.specs.Armed.{armed_on, barrier_ran, ended_by, next_count}
+use Rattle.session.specs.Armed.{Armed, armed_on, barrier_ran, ended_by, next_count}
 use Rattle.session.specs.Barrier.{barrier_number, barrier_test, barrier_reply, barrier_entry, ordered, barriered}
 use Rattle.session.proofs.Refusals.{operation-room}
 

@@ -1,4 +1,5 @@
 -- What a program and an erase share: the plan, and the two ways that a call goes, refused or taken. Assumes nothing.
+--     lands-le, program-lands, erase-lands    no more lands than the length; what the code lands is each one's
 --     unarmed-plan         with nothing armed it answers 0, and the session runs on
 --     plan-counts          a taken one adds one to the count
 --     refuses, takes       which way a call goes is told by its number
@@ -6,23 +7,37 @@
 use mathlib.Core.Path.{◌≡◌, refl, sym, ap, ◌∙◌}
 use mathlib.Core.Bool.{Bool}
 use mathlib.Core.List.{List}
-use Prim.Native.Nat.{ℕ, zero, suc, ◌+◌}
-use native.Mathlib.Nat.{suc-ne-zero}
+use Prim.Native.Nat.{ℕ, zero, suc, ◌+◌, ◌≤◌}
+use native.Mathlib.Nat.{suc-ne-zero, le_refl}
 use lib.Dec.{eqb}
 use borrow.Author.Tests.{eq-eqb, ne_eqb}
 use Rattle.landing.specs.declared.Stop.TheVariants.{Running}
-use Rattle.landing.specs.declared.Ending.{Ending}
-use Rattle.session.specs.declared.Armed.{Armed}
-use Rattle.session.specs.declared.Armed.TheVariants.{Nothing}
+use Rattle.landing.specs.Ending.{Ending}
+use Rattle.std.specs.Prelude.{None as Nothing, Some as At}
 use Rattle.session.specs.declared.Counters.{Counters}
 use Rattle.session.specs.declared.Entry.{Entry}
-use Rattle.session.specs.declared.Plan.{Plan}
+use Rattle.session.specs.Replies.{Plan}
 use Rattle.session.specs.Log.{Log, logged}
 use Rattle.session.specs.Tests.{operation_test}
-use Rattle.session.specs.Armed.{write_reply}
+use Rattle.landing.proofs.Bounds.{program-landed-by, erase-landed-by, landed-by-le}
+use Rattle.session.specs.Armed.{Armed, program_lands, erase_lands, lands, write_reply}
 use Rattle.session.specs.Written.{planned, Landing, Written, written, landed_so, written_by}
 use Rattle.session.proofs.Refusals.{operation-room}
 use Rattle.session.proofs.Laws.{next-count, unarmed-ends}
+
+-- ---- what lands
+
+pub lands-le : (len step unit : ℕ) (a : Armed) → lands len step unit a ≤ len
+lands-le len step unit Nothing = le_refl len
+lands-le len step unit (At j) = landed-by-le j len step unit
+
+pub program-lands : (a : Armed) (len unit : ℕ) → lands len 1 unit a ≡ program_lands a len unit
+program-lands Nothing len unit = refl
+program-lands (At j) len unit = program-landed-by j len unit
+
+pub erase-lands : (a : Armed) (len block : ℕ) → lands len block block a ≡ erase_lands a len block
+erase-lands Nothing len block = refl
+erase-lands (At j) len block = erase-landed-by j len block
 
 -- ---- the plan
 

@@ -1,16 +1,18 @@
 -- Document 01, "session.rs (974)": the operation that an injection is armed on. Definitions only; assumes nothing.
-use Rattle.std.specs.Prelude.{Bool, true, false, ◌||◌, cond, ℕ, ◌+◌, eqb, ltb}
+use Rattle.std.specs.Prelude.{Bool, true, false, ◌||◌, cond, Option, None as Nothing, Some as At, ℕ, ◌+◌, eqb, ltb}
+use Rattle.inject.specs.declared.Injection.{Injection}
 use Rattle.landing.specs.declared.Stop.TheVariants.{Running}
-use Rattle.landing.specs.declared.Ending.{Ending}
-use Rattle.landing.specs.Landed.{program_landed, erase_landed, ran}
-use Rattle.landing.specs.Ending.{ending_of}
+use Rattle.landing.specs.Landed.{program_landed, erase_landed, landed_by, ran}
+use Rattle.landing.specs.Ending.{Ending, ending_of}
 use Rattle.storage.specs.declared.Geometry.{Geometry}
 use Rattle.device.specs.declared.OneWayBits.{OneWayBits}
 use Rattle.session.specs.declared.Told.{Told}
-use Rattle.session.specs.declared.Armed.{Armed}
-use Rattle.session.specs.declared.Armed.TheVariants.{Nothing, At}
 use Rattle.session.specs.declared.Counters.{Counters}
-use Rattle.session.specs.declared.Called.{Called}
+use Rattle.session.specs.Replies.{Called}
+
+-- at most one injection
+abbrev pub Armed : Type 0
+Armed = Option Injection
 
 -- what a start is told, made in one place; and the same with another injection
 abbrev pub told_with : Geometry → OneWayBits → Armed → Told
@@ -37,6 +39,11 @@ program_lands (At j) len unit = program_landed j len unit
 abbrev pub erase_lands : Armed → (len block : ℕ) → ℕ
 erase_lands Nothing len block = len
 erase_lands (At j) len block = erase_landed j len block
+
+-- the same of either, as the code has it (`landed_by`)
+abbrev pub lands : (len step unit : ℕ) → Armed → ℕ
+lands len step unit Nothing = len
+lands len step unit (At j) = landed_by j len step unit
 
 -- whether a barrier ran
 abbrev pub barrier_ran : Armed → Bool

@@ -4,13 +4,12 @@ use Rattle.basics.specs.Tests.{flag, first_of}
 use Rattle.storage.specs.Geometry.{geometry_test}
 use Rattle.landing.specs.Ending.{stop_number}
 use Rattle.session.specs.declared.Told.{Told}
-use Rattle.session.specs.declared.Armed.{Armed}
 use Rattle.session.specs.declared.Counters.{Counters}
-use Rattle.session.specs.declared.Called.{Called}
+use Rattle.session.specs.Replies.{Called}
 use Rattle.session.specs.declared.Entry.{Entry}
 use Rattle.session.specs.Log.{Log, logged}
 use Rattle.session.specs.Tests.{log_test, operation_test}
-use Rattle.session.specs.Armed.{armed_on, barrier_ran, ended_by, replied}
+use Rattle.session.specs.Armed.{Armed, armed_on, barrier_ran, ended_by, replied}
 
 -- "A session call first tests the lengths lent to it (7, 12, 13), then stopped, then geometry, then 20, then 27."
 -- (`log` is the number of the log's columns)

@@ -1,7 +1,7 @@
 -- Document 01, "session.rs (974)": record marks. Definitions only; assumes nothing.
 use Rattle.std.specs.Prelude.{cond, List, [], ◌∷◌, ℕ, ◌+◌, length, eqb}
 use Rattle.session.specs.declared.Counters.{Counters}
-use Rattle.session.specs.declared.Called.{Called}
+use Rattle.session.specs.Replies.{Called}
 use Rattle.session.specs.Log.{Marks, Mark, mark_of, marked}
 use Rattle.session.specs.Tests.{marks_number}
 

@@ -1,17 +1,19 @@
 -- Document 01, "Demand 3" and "Numbers from the input": what a start answers, and what it leaves. Definitions only; assumes nothing.
-use Rattle.std.specs.Prelude.{false, cond, List, ℕ, length, eqb}
+use Rattle.std.specs.Prelude.{false, cond, List, Result, Ok as Fresh, Err as NotStarted, ℕ, length, eqb}
 use Rattle.device.specs.Media.{new_media}
 use Rattle.landing.specs.declared.Stop.TheVariants.{Running}
 use Rattle.session.specs.declared.Told.{Told}
 use Rattle.session.specs.declared.Counters.{Counters}
-use Rattle.session.specs.declared.Started.{Started}
-use Rattle.session.specs.declared.Started.TheVariants.{Fresh, NotStarted}
 use Rattle.session.specs.Log.{Log, Marks}
 use Rattle.session.specs.Tests.{start_test}
 
 -- "Fresh is a session whose start was not refused, before any call": nothing taken, not stopped, nothing fired or withheld
 abbrev pub fresh : Counters
 fresh = record { operations = 0; marks = 0; stop = Running; fired = false; place = 0; withheld = 0 }
+
+-- what a start answers: the fresh counters, or the number that refuses
+abbrev pub Started : Type 0
+Started = Result Counters ℕ
 
 -- what a start leaves: its reply and the media. The copy, the log and the marks stay as they are.
 pub record Opened : Type 0 where

@@ -32,9 +32,13 @@ log_uneven_of l =
 abbrev pub marks_uneven_of : Marks → Bool
 marks_uneven_of m = marks_uneven (length m.codes) (length m.ids) (length m.places)
 
+-- columns that are lent: 12, then 13
+abbrev pub columns_test : (uneven short : Bool) → ℕ
+columns_test uneven short = first_of (refuse_if uneven 12 ∷ refuse_if short 13 ∷ [])
+
 -- the log's columns, over their lengths: 12, then 13
 unfoldable pub log_length_test : (kinds offsets lens digests changed answered : ℕ) → ℕ
-log_length_test k o l d c a = first_of (refuse_if (log_uneven k o l d c a) 12 ∷ refuse_if (log_short k) 13 ∷ [])
+log_length_test k o l d c a = columns_test (log_uneven k o l d c a) (log_short k)
 
 abbrev pub log_test : Log → ℕ
 log_test l =
@@ -43,7 +47,7 @@ log_test l =
 
 -- the marks' columns, over their lengths: 12, then 13
 unfoldable pub marks_length_test : (codes ids places : ℕ) → ℕ
-marks_length_test c i p = first_of (refuse_if (marks_uneven c i p) 12 ∷ refuse_if (marks_short c) 13 ∷ [])
+marks_length_test c i p = columns_test (marks_uneven c i p) (marks_short c)
 
 abbrev pub marks_test : Marks → ℕ
 marks_test m = marks_length_test (length m.codes) (length m.ids) (length m.places)

@@ -1,12 +1,10 @@
 -- Document 01, "session.rs (974)": what a program and an erase share, and what they leave. Definitions only; assumes nothing.
 use Rattle.std.specs.Prelude.{Bool, cond, List, ℕ, ◌+◌, ◌-◌, eqb}
-use Rattle.session.specs.declared.Armed.{Armed}
 use Rattle.session.specs.declared.Counters.{Counters}
-use Rattle.session.specs.declared.Called.{Called}
+use Rattle.session.specs.Replies.{Called, Plan}
 use Rattle.session.specs.declared.Entry.{Entry}
-use Rattle.session.specs.declared.Plan.{Plan}
 use Rattle.session.specs.Log.{Log, logged}
-use Rattle.session.specs.Armed.{write_reply}
+use Rattle.session.specs.Armed.{Armed, write_reply}
 
 -- how much lands, and the reply: "If the landed length equals the length, the operation completed."
 abbrev pub planned_at : Counters → Armed → (len landed place : ℕ) → Plan

@@ -11,17 +11,21 @@
 // crate anew.
 #![tactic(auto)]
 
-ghost use Rattle.std.specs.Prelude.{◌≡◌};
-ghost use Rattle.basics.specs.Tests.{flag};
-ghost use Rattle.session.specs.Log.{log_of, logged};
-ghost use Rattle.session.specs.Tests.{log_uneven, size_test, log_length_test, operation_test};
-ghost use Rattle.session.specs.Armed.{told_with, armed_on, is_armed, ended_by, next_count, replied};
-ghost use Rattle.session.specs.Written.{planned_at};
+ghost use Rattle.std.specs.Prelude.{◌≡◌, ◌+◌, ◌^◌, ◌<◌};
+ghost use Rattle.basics.specs.Replies.{number_in};
+ghost use Rattle.refusals.specs.Numbers.{number_of};
+ghost use Rattle.landing.specs.Ending.{ended_as};
+ghost use Rattle.session.specs.Log.{mark_of, marked, logged};
+ghost use Rattle.session.specs.Lent.{log_in, log_seen, marks_in, marks_seen, SameLog, SameMarks};
+ghost use Rattle.session.specs.Tests.{columns_test, log_uneven_of, marks_uneven_of, size_test, log_test, marks_test, operation_test};
+ghost use Rattle.session.specs.Replies.{told_as, plan_as};
+ghost use Rattle.session.specs.Armed.{told_with, armed_on, lands, ended_by, next_count, replied};
+ghost use Rattle.session.specs.Written.{planned_at, planned_by};
 
-use basics::{store_u8, store_u32, store_u64};
 use device::OneWayBits;
 use inject::Injection;
 use landing::{Ending, Stop};
+use refusals::Refusal;
 use storage::Geometry;
 
 // How many operations and marks a session takes.
@@ -29,24 +33,17 @@ pub const OPERATIONS: usize = 1024;
 
 pub const MARKS: usize = 512;
 
-// At most one injection.
-#[derive(Clone, Copy)]
-pub enum Armed {
-    Nothing,
-    At(Injection),
-}
-
-// What the start was told. No call changes it.
-#[derive(Clone, Copy)]
+// What the start was told: at most one injection is armed. No call changes it.
+#[derive(Clone, Copy, Debug, PartialEq, Eq)]
 pub struct Told {
     pub geometry: Geometry,
     pub bits: OneWayBits,
-    pub armed: Armed,
+    pub armed: Option<Injection>,
 }
 
 // What calls change: how many operations and marks were taken, the reset that stopped the session, whether the injection has
 // fired, and the span of the media that the armed operation withheld: where it starts and how many bytes it has.
-#[derive(Clone, Copy)]
+#[derive(Clone, Copy, Debug, PartialEq, Eq)]
 pub struct Counters {
     pub operations: usize,
     pub marks: usize,
@@ -56,16 +53,16 @@ pub struct Counters {
     pub withheld: u32,
 }
 
-// The reply to a call: document 01's number, 0 where nothing is refused and nothing was armed, and the counters after it.
-#[derive(Clone, Copy)]
+// The reply to a call: what it answers, no refusal where nothing is refused and nothing was armed, and the counters after it.
+#[derive(Clone, Copy, Debug, PartialEq, Eq)]
 pub struct Called {
-    pub answer: u32,
+    pub answer: Result<(), Refusal>,
     pub counters: Counters,
 }
 
-// One operation as the log has it: its kind (0 a program, 1 an erase, 2 a barrier), its span, the digest of the bytes handed in,
-// whether a cell changed and whether it answered 0 (each 0 or 1).
-#[derive(Clone, Copy)]
+// One operation as the log has it, in codes, since document 01 wants columns of numbers: its kind (0 a program, 1 an erase, 2 a
+// barrier), its span, the digest of the bytes handed in, whether a cell changed and whether it answered 0 (each 0 or 1).
+#[derive(Clone, Copy, Debug, PartialEq, Eq)]
 pub struct Entry {
     pub kind: u8,
     pub offset: u32,
@@ -76,21 +73,14 @@ pub struct Entry {
 }
 
 // What a program or an erase that is not refused will do: how much of it lands, and its reply.
-#[derive(Clone, Copy)]
+#[derive(Clone, Copy, Debug, PartialEq, Eq)]
 pub struct Plan {
     pub landed: u32,
     pub reply: Called,
 }
 
-// What a start answers: the fresh counters, or the number that refuses.
-#[derive(Clone, Copy)]
-pub enum Started {
-    Fresh(Counters),
-    NotStarted(u32),
-}
-
 // What a start is told is made here alone.
-pub fn told_with(geometry: Geometry, bits: OneWayBits, armed: Armed) -> Told
+pub fn told_with(geometry: Geometry, bits: OneWayBits, armed: Option<Injection>) -> Told
     ensures { result ≡ told_with geometry bits armed }
 {
     Told {
@@ -100,104 +90,207 @@ pub fn told_with(geometry: Geometry, bits: OneWayBits, armed: Armed) -> Told
     }
 }
 
-// ---- tests that calls share, over the lengths lent
+// ---- the columns lent
 
-// 7 where media or withheld copy are not of capacity length.
-pub fn size_refusal(geometry: Geometry, media: usize, copy: usize) -> u32
-    ensures { result ≡ size_test geometry media copy }
+// The log of operations, lent to be written: a row of six columns for each.
+#[derive(Drop)]
+pub struct LogMut<'a> {
+    pub kinds: &'a mut [u8],
+    pub offsets: &'a mut [u32],
+    pub lens: &'a mut [u32],
+    pub digests: &'a mut [u64],
+    pub changed: &'a mut [u8],
+    pub answered: &'a mut [u8],
+}
+
+// The same, lent to be read.
+#[derive(Clone, Copy)]
+pub struct LogRef<'a> {
+    pub kinds: &'a [u8],
+    pub offsets: &'a [u32],
+    pub lens: &'a [u32],
+    pub digests: &'a [u64],
+    pub changed: &'a [u8],
+    pub answered: &'a [u8],
+}
+
+// The record marks, lent to be written: a row of three columns for each.
+#[derive(Drop)]
+pub struct MarksMut<'a> {
+    pub codes: &'a mut [u8],
+    pub ids: &'a mut [u32],
+    pub places: &'a mut [u64],
+}
+
+// The same, lent to be read.
+#[derive(Clone, Copy)]
+pub struct MarksRef<'a> {
+    pub codes: &'a [u8],
+    pub ids: &'a [u32],
+    pub places: &'a [u64],
+}
+
+impl LogRef<'_> {
+    // Whether the columns are unequal.
+    pub fn uneven(&self) -> bool
+        ensures { result ≡ log_uneven_of (log_seen self.now) }
+    {
+        let rows = self.kinds.len();
+        (self.offsets.len() != rows)
+            | (self.lens.len() != rows)
+            | (self.digests.len() != rows)
+            | (self.changed.len() != rows)
+            | (self.answered.len() != rows)
+    }
+
+    // 12 where the columns are unequal, 13 where they are shorter than the limit.
+    pub fn refusal(&self) -> Result<(), Refusal>
+        ensures { number_in number_of result ≡ log_test (log_seen self.now) }
+    {
+        columns_refusal(self.uneven(), self.kinds.len() < OPERATIONS)
+    }
+}
+
+impl LogMut<'_> {
+    // The columns to read.
+    pub fn seen(&self) -> LogRef<'_>
+        ensures { log_seen result ≡ log_in self.now }
+    {
+        LogRef {
+            kinds: self.kinds,
+            offsets: self.offsets,
+            lens: self.lens,
+            digests: self.digests,
+            changed: self.changed,
+            answered: self.answered,
+        }
+    }
+
+    // 12 where the columns are unequal, 13 where they are shorter than the limit.
+    pub fn refusal(&self) -> Result<(), Refusal>
+        ensures { number_in number_of result ≡ log_test (log_in self.now) }
+    {
+        self.seen().refusal()
+    }
+
+    // Records an operation at an index. Past a column's end nothing is stored.
+    pub fn record(&mut self, index: usize, entry: Entry)
+        ensures same { SameLog self.old self.new }
+        ensures left { log_in self.new ≡ logged (log_in self.old) index entry }
+    {
+        basics::store(self.kinds, index, entry.kind);
+        basics::store(self.offsets, index, entry.offset);
+        basics::store(self.lens, index, entry.len);
+        basics::store(self.digests, index, entry.digest);
+        basics::store(self.changed, index, entry.changed);
+        basics::store(self.answered, index, entry.answered);
+    }
+}
+
+impl MarksRef<'_> {
+    // Whether the columns are unequal.
+    pub fn uneven(&self) -> bool
+        ensures { result ≡ marks_uneven_of (marks_seen self.now) }
+    {
+        let rows = self.codes.len();
+        (self.ids.len() != rows) | (self.places.len() != rows)
+    }
+
+    // 12 where the columns are unequal, 13 where they are shorter than the limit.
+    pub fn refusal(&self) -> Result<(), Refusal>
+        ensures { number_in number_of result ≡ marks_test (marks_seen self.now) }
+    {
+        columns_refusal(self.uneven(), self.codes.len() < MARKS)
+    }
+}
+
+impl MarksMut<'_> {
+    // The columns to read.
+    pub fn seen(&self) -> MarksRef<'_>
+        ensures { marks_seen result ≡ marks_in self.now }
+    {
+        MarksRef {
+            codes: self.codes,
+            ids: self.ids,
+            places: self.places,
+        }
+    }
+
+    // 12 where the columns are unequal, 13 where they are shorter than the limit.
+    pub fn refusal(&self) -> Result<(), Refusal>
+        ensures { number_in number_of result ≡ marks_test (marks_in self.now) }
+    {
+        self.seen().refusal()
+    }
+
+    // Stores a mark at an index. Past a column's end nothing is stored.
+    pub fn mark(&mut self, index: usize, code: u8, id: u32, place: u64)
+        ensures same { SameMarks self.old self.new }
+        ensures left { marks_in self.new ≡ marked (marks_in self.old) index (mark_of code id place) }
+    {
+        basics::store(self.codes, index, code);
+        basics::store(self.ids, index, id);
+        basics::store(self.places, index, place);
+    }
+}
+
+// ---- tests that calls share
+
+// 12 where columns of one list are unequal, 13 where they are shorter than the limits.
+pub fn columns_refusal(uneven: bool, short: bool) -> Result<(), Refusal>
+    ensures { number_in number_of result ≡ columns_test uneven short }
+{
+    if uneven {
+        return Err(Refusal::MalformedColumns);
+    }
+    if short {
+        return Err(Refusal::ColumnsTooShort);
+    }
+    Ok(())
+}
+
+// 7 where media or withheld copy are not of capacity length. Two lengths and no struct of both buffers: a start lends the one to be
+// written and the other to be read.
+pub fn size_refusal(geometry: Geometry, media: usize, copy: usize) -> Result<(), Refusal>
+    ensures { number_in number_of result ≡ size_test geometry media copy }
 {
     let capacity = geometry.capacity as usize;
     if (media != capacity) | (copy != capacity) {
-        7
-    } else {
-        0
+        return Err(Refusal::MediaLength);
     }
-}
-
-// Whether the log's columns are unequal.
-pub fn log_uneven(
-    kinds: usize,
-    offsets: usize,
-    lens: usize,
-    digests: usize,
-    changed: usize,
-    answered: usize,
-) -> bool
-    ensures { result ≡ log_uneven kinds offsets lens digests changed answered }
-{
-    (offsets != kinds)
-        | (lens != kinds)
-        | (digests != kinds)
-        | (changed != kinds)
-        | (answered != kinds)
-}
-
-// 12 where the log's columns are unequal, 13 where they are shorter than the limit.
-pub fn log_refusal(
-    kinds: usize,
-    offsets: usize,
-    lens: usize,
-    digests: usize,
-    changed: usize,
-    answered: usize,
-) -> u32
-    ensures { result ≡ log_length_test kinds offsets lens digests changed answered }
-{
-    if log_uneven(kinds, offsets, lens, digests, changed, answered) {
-        return 12;
-    }
-    if kinds < OPERATIONS { 13 } else { 0 }
+    Ok(())
 }
 
 // 27 where as many operations as the limit are recorded already.
-pub fn operation_refusal(operations: usize) -> u32
-    ensures { result ≡ operation_test operations }
+pub fn operation_refusal(operations: usize) -> Result<(), Refusal>
+    ensures { number_in number_of result ≡ operation_test operations }
 {
-    if operations < OPERATIONS { 0 } else { 27 }
+    if operations >= OPERATIONS {
+        return Err(Refusal::TooManyOperations);
+    }
+    Ok(())
 }
 
 // ---- what operations share
 
 // The injection, if it is armed on the operation with this index.
-pub fn armed_for(armed: Armed, index: usize) -> Armed
+pub fn armed_for(armed: Option<Injection>, index: usize) -> Option<Injection>
     ensures { result ≡ armed_on armed index }
 {
-    match armed {
-        Armed::Nothing => Armed::Nothing,
-        Armed::At(injection) => {
-            let op = injection.op;
-            if op == index {
-                Armed::At(injection)
-            } else {
-                Armed::Nothing
-            }
-        }
-    }
+    armed.filter(|injection| injection.op == index)
 }
 
-// How an operation ends: where nothing is armed on it, it answers 0 and the session runs on.
-pub fn ended_by(armed: Armed, completed: bool) -> Ending
-    ensures { result ≡ ended_by armed completed }
+// How an operation ends: where nothing is armed on it, nothing is refused and the session runs on. A `map_or` with that ending as
+// its first argument reads no plainer than the two cases.
+pub fn ended_by(armed: Option<Injection>, completed: bool) -> Ending
+    ensures { ended_as result ≡ ended_by armed completed }
 {
     match armed {
-        Armed::Nothing => Ending {
-            answer: 0,
+        None => Ending {
+            answer: Ok(()),
             stop: Stop::Running,
         },
-        Armed::At(injection) => {
-            let interruption = injection.interruption;
-            landing::ending_of(interruption, completed)
-        }
-    }
-}
-
-// Whether an injection is armed.
-fn is_armed(armed: Armed) -> bool
-    ensures { result ≡ is_armed armed }
-{
-    match armed {
-        Armed::Nothing => false,
-        Armed::At(_) => true,
+        Some(injection) => landing::ending_of(injection.interruption, completed),
     }
 }
 
@@ -213,71 +306,51 @@ fn next_count(operations: usize) -> usize
 }
 
 // The reply to an operation that is taken, and that ends so with `armed` armed on it.
-pub fn reply_of(counters: Counters, armed: Armed, ending: Ending) -> Called
-    ensures { result ≡ replied counters armed ending }
+pub fn reply_of(counters: Counters, armed: Option<Injection>, ending: Ending) -> Called
+    ensures { told_as result ≡ replied counters armed (ended_as ending) }
 {
-    let fired = is_armed(armed) | counters.fired;
-    let operations = next_count(counters.operations);
-    let stop = ending.stop;
     Called {
         answer: ending.answer,
         counters: Counters {
-            operations,
-            marks: counters.marks,
-            stop,
-            fired,
-            place: counters.place,
-            withheld: counters.withheld,
+            operations: next_count(counters.operations),
+            stop: ending.stop,
+            fired: armed.is_some() | counters.fired,
+            ..counters
         },
     }
 }
 
 // What a program or an erase of which `landed` bytes land will do, with `armed` armed on it: its reply, which remembers where
 // those that did not land start (`place`) and how many they are, for the ledger to compare the copy with the media.
-pub fn planned(counters: Counters, armed: Armed, len: u32, landed: u32, place: u32) -> Plan
-    ensures { result ≡ planned_at counters armed len landed place }
+fn planned(counters: Counters, armed: Option<Injection>, len: u32, landed: u32, place: u32) -> Plan
+    ensures { plan_as result ≡ planned_at counters armed len landed place }
 {
     let ending = ended_by(armed, landed == len);
-    let reply = reply_of(counters, armed, ending);
-    if landed >= len {
-        return Plan { landed, reply };
+    let mut reply = reply_of(counters, armed, ending);
+    if landed < len {
+        reply.counters.place = place;
+        reply.counters.withheld = len - landed;
     }
-    let mut next = reply.counters;
-    next.place = place;
-    next.withheld = len - landed;
-    Plan {
-        landed,
-        reply: Called {
-            answer: reply.answer,
-            counters: next,
-        },
-    }
+    Plan { landed, reply }
 }
 
-// A flag as a column holds it.
-pub fn flag_of(yes: bool) -> u8
-    ensures { result ≡ flag yes }
+// What a program or an erase of `len` bytes at `offset` will do, by the injection that is armed on it: all of it lands where
+// none is. `step` and `unit` say where it may stop (`landing::landed_at`). One that is not refused ends within u32.
+pub fn write_plan(
+    told: Told,
+    counters: Counters,
+    offset: u32,
+    len: u32,
+    step: u32,
+    unit: u32,
+) -> Plan
+    requires { offset + len < 2 ^ 32 }
+    ensures { plan_as result ≡ planned_by counters (armed_on told.armed counters.operations) offset len (lands len step unit) }
 {
-    if yes { 1 } else { 0 }
-}
-
-// Records an operation at an index of the log. Past a column's end nothing is stored.
-pub fn record(
-    kinds: &mut [u8],
-    offsets: &mut [u32],
-    lens: &mut [u32],
-    digests: &mut [u64],
-    changed: &mut [u8],
-    answered: &mut [u8],
-    index: usize,
-    entry: Entry,
-)
-    ensures { log_of kinds.new offsets.new lens.new digests.new changed.new answered.new ≡ logged (log_of kinds.old offsets.old lens.old digests.old changed.old answered.old) index entry }
-{
-    store_u8(kinds, index, entry.kind);
-    store_u32(offsets, index, entry.offset);
-    store_u32(lens, index, entry.len);
-    store_u64(digests, index, entry.digest);
-    store_u8(changed, index, entry.changed);
-    store_u8(answered, index, entry.answered);
+    let armed = armed_for(told.armed, counters.operations);
+    let landed = armed.map_or(
+        len,
+        |injection| landing::landed_at(injection, len, step, unit),
+    );
+    planned(counters, armed, len, landed, offset + landed)
 }

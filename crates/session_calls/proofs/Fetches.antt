@@ -1,24 +1,18 @@
 -- The ways that a read goes, as its definition has them. Assumes nothing.
-use mathlib.Core.Path.{◌≡◌, sym, ap, ◌∙◌}
+use mathlib.Core.Path.{◌≡◌, refl, sym, ap, ◌∙◌}
 use mathlib.Core.Bool.{cond}
 use mathlib.Core.List.{List, [], ◌∷◌, ◌++◌}
-use Prim.Native.Nat.{ℕ}
+use Prim.Native.Nat.{ℕ, zero, suc}
 use native.Mathlib.Nat.{suc-ne-zero}
-use native.Mathlib.Omega.{arith}
 use lib.ListN.{length}
 use lib.Dec.{eqb}
 use borrow.Author.Tests.{eq-eqb, ne_eqb}
 use Rattle.basics.specs.Tests.{first_of}
 use Rattle.basics.specs.Parts.{part}
 use Rattle.basics.proofs.Tests.{unless_holds, unless-fails, first_of-pass, first_of-stop}
-use Rattle.device_calls.specs.declared.FaultError.{FaultError}
-use Rattle.device_calls.specs.declared.Reply.{Reply}
-use Rattle.device_calls.specs.declared.Reply.TheVariants.{Accepted, Refused}
-use Rattle.device_calls.specs.Answers.{number_of_fault, number_of_reply, replied}
 use Rattle.storage.specs.Geometry.{geometry_test}
 use Rattle.storage.specs.Span.{read_test}
 use Rattle.device_calls.specs.Calls.{media_test, buffer_test, read_refusal, Called, read_call}
-use Rattle.device_calls.proofs.Replies.{read-number}
 use Rattle.landing.specs.Ending.{stop_number}
 use Rattle.session.specs.declared.Told.{Told}
 use Rattle.session.specs.declared.Counters.{Counters}
@@ -27,6 +21,11 @@ use Rattle.session.specs.Read.{read_number, fetched, fetched_by, read_by}
 -- a number that is not 0 refuses, and the buffer stays
 refused-by : (number : ℕ) (media : List ℕ) (offset : ℕ) (buffer : List ℕ) → (number ≡ 0 → ⊥) → fetched number buffer ≡ fetched_by number media offset buffer
 refused-by number media offset buffer h = simp (ne_eqb number 0 h)
+
+by-number : (number : ℕ) (media : List ℕ) (offset : ℕ) (buffer : List ℕ)
+    → fetched number (cond (eqb number 0) (part media offset (length buffer)) buffer) ≡ fetched_by number media offset buffer
+by-number zero media offset buffer = refl
+by-number (suc n) media offset buffer = simp (ne_eqb (suc n) 0 (suc-ne-zero n))
 
 -- a last test that passes
 first_of-last : (ns : List ℕ) (n : ℕ) → n ≡ 0 → first_of (ns ++ (n ∷ [])) ≡ first_of ns
@@ -49,10 +48,13 @@ module _ (t : Told) (c : Counters) (media : List ℕ) (offset : ℕ) (buffer : L
         let n = first_of-pass _ _ (unless_holds _ 7 (eq-eqb _ _ whole)) ∙ first_of-stop _ _ (λ z. h (s ∙ z)) in
         refused-by stopped media offset buffer h ∙ ap (λ (x : ℕ). fetched_by x media offset buffer) (s ∙ sym n)
 
-    module _ (running : stopped ≡ 0) (reply : Reply) (after : List ℕ) (e : ◌≡◌ {A = Called} (record { reply = reply; content = after }) (read_call t.geometry media offset buffer)) where
+    module _ (running : stopped ≡ 0) (n : ℕ) (after : List ℕ) (e : ◌≡◌ {A = Called} (record { reply = n; content = after }) (read_call t.geometry media offset buffer)) where
+      number : ℕ
+      number = read_refusal t.geometry (length media) offset (length buffer)
+
       -- the session's tests are then the device's, which have the media's length last
-      same_tests : read_number t c (length media) offset (length buffer) ≡ read_refusal t.geometry (length media) offset (length buffer)
-      unfolding read_number read_refusal
+      same_tests : read_number t c (length media) offset (length buffer) ≡ number
+      unfolding read_number number read_refusal
       same_tests =
           first_of-pass _ _ (unless_holds _ 7 (eq-eqb _ _ whole)) ∙ first_of-pass _ _ (sym s ∙ running)
           ∙ sym
@@ -61,28 +63,9 @@ module _ (t : Told) (c : Counters) (media : List ℕ) (offset : ℕ) (buffer : L
           (media_test t.geometry (length media))
           (unless_holds _ 7 (eq-eqb _ _ whole)))
 
-      number : number_of_reply reply ≡ read_refusal t.geometry (length media) offset (length buffer)
-      number = ap (λ (x : Called). number_of_reply x.reply) e ∙ read-number t.geometry media offset buffer
-
-      content : after ≡ cond (eqb (read_refusal t.geometry (length media) offset (length buffer)) 0) (part media offset (length buffer)) buffer
-      unfolding read_call
-      content = ap (λ (x : Called). x.content) e
-
-      pub read-accepted : reply ≡ Accepted → fetched 0 after ≡ read_by t c media offset buffer
-      unfolding read_by
-      read-accepted a =
-          let z : read_refusal t.geometry (length media) offset (length buffer) ≡ 0 = sym number ∙ ap number_of_reply a in
-          simp (same_tests, content, z)
-
-      pub read-refused : (fault : FaultError) → reply ≡ Refused fault → (r : ℕ) → r ≡ number_of_fault fault → fetched r after ≡ read_by t c media offset buffer
-      unfolding read_by
-      read-refused fault a r q =
-          let n : read_refusal t.geometry (length media) offset (length buffer) ≡ r = sym number ∙ ap number_of_reply a ∙ sym q in
-          let h : r ≡ 0 → ⊥ = λ z. not-accepted (n ∙ z) a in
-          simp (same_tests, content, n, ne_eqb r 0 h)
-        where
-          not-accepted : read_refusal t.geometry (length media) offset (length buffer) ≡ 0 → reply ≡ Refused fault → ⊥
-          not-accepted z b =
-              let w : reply ≡ replied (read_refusal t.geometry (length media) offset (length buffer)) = unfold read_call in ap (λ (x : Called). x.reply) e in
-              let v : ◌≡◌ {A = ℕ} 0 1 = cc (w ∙ ap replied z) in
-              omega arith
+      pub read_device : fetched n after ≡ read_by t c media offset buffer
+      unfolding read_by read_call number
+      read_device =
+          let p : n ≡ number = ap (λ (x : Called). x.reply) e in
+          let q : after ≡ cond (eqb number 0) (part media offset (length buffer)) buffer = ap (λ (x : Called). x.content) e in
+          simp (same_tests, p, q) (by-number number media offset buffer)

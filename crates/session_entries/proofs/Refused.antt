@@ -1,20 +1,27 @@
--- What the tests of an index and of lengths tell: the number of a place inside and outside, that no row goes where there is no room,
--- and what holds where nothing refuses. Assumes nothing.
-use mathlib.Core.Path.{◌≡◌, refl, ap, sym}
+-- What the tests of an index and of lengths tell: the number of a place inside and outside, and what holds where nothing refuses.
+-- Assumes nothing.
+use mathlib.Core.Path.{◌≡◌, refl, ap, sym, ◌∙◌}
 use mathlib.Core.Bool.{Bool, true, false, not, cond, ◌||◌}
 use mathlib.Core.List.{List, [], ◌∷◌}
 use Prim.Native.Nat.{ℕ, ◌<◌, ◌≤◌}
 use native.Mathlib.Omega.{arith}
 use lib.ListN.{length, get_or}
 use lib.Dec.{eqb, ltb}
-use borrow.Author.Tests.{lt-ltb, le-ltb, ltb-false, eqb-true, not-false}
-use Rattle.basics.specs.Tests.{refuse_if, first_of}
+use borrow.Author.Tests.{lt-ltb, le-ltb, ltb-true, ltb-false, eqb-true, not-false}
+use Rattle.basics.specs.Tests.{refuse_if}
 use Rattle.basics.proofs.Tests.{unless_holds, unless-fails, refuse-zero, first_of-zero}
 use Rattle.session.specs.declared.Entry.{Entry}
 use Rattle.session.specs.Log.{Log}
 use Rattle.session.specs.Tests.{log_uneven, log_uneven_of}
-use Rattle.session_entries.specs.declared.EntryAnswer.TheVariants.{Found, NotThere}
-use Rattle.session_entries.specs.Entries.{no_entry, place_test, number_of_entry, entry_by, entry_at, moved_test, moved_number, moved_rows, OfLength}
+use Rattle.std.specs.Prelude.{Ok as Found, Err as NotThere}
+use Rattle.std.specs.Prelude.{Option, Some, None}
+use Rattle.std.specs.Option.{ok_or, option_copied}
+use Rattle.std.specs.Slice.{IsItemAt}
+use denote.Bor.{Bor}
+use Rattle.basics.specs.Replies.{numbered}
+use Rattle.refusals.specs.declared.Refusal.TheVariants.{NoSuchPlace}
+use Rattle.refusals.specs.Numbers.{number_of}
+use Rattle.session_entries.specs.Entries.{no_entry, place_test, number_of_entry, entry_by, entry_at, moved_test, moved_number, OfLength}
 
 pub place_inside : (i n : ℕ) → i < n → 0 ≡ place_test i n
 unfolding place_test
@@ -32,6 +39,13 @@ pub entry-outside : (log : List Entry) (i : ℕ) → length log ≤ i → NotThe
 unfolding entry_at
 entry-outside log i h = ap (λ (n : ℕ). entry_by n (get_or log i no_entry)) (place-outside i (length log) h)
 
+-- what `get` lends, copied
+pub entry-read : (log : List Entry) (i : ℕ) (o : Option (Bor Entry)) → IsItemAt log i o → numbered number_of (ok_or (option_copied o) NoSuchPlace) ≡ entry_at log i
+entry-read log i None a = entry-outside log i (ltb-false i (length log) (sym a.0))
+entry-read log i (Some b) a =
+    let v : b.now ≡ get_or log i no_entry = a.4 (omega arith) no_entry in
+    ap Found v ∙ entry-inside log i (ltb-true i (length log) (sym a.0))
+
 -- an answer has the number that it was made by
 by_number : (t : Bool) (n : ℕ) (e : Entry) → (t ≡ true → n ≡ 0) → number_of_entry (cond t (Found e) (NotThere n)) ≡ n
 by_number true n e z = sym (z refl)
@@ -44,30 +58,6 @@ number-of-answer n e = by_number (eqb n 0) n e (eqb-true n 0)
 pub entry-number : (log : List Entry) (i : ℕ) → number_of_entry (entry_at log i) ≡ place_test i (length log)
 unfolding entry_at
 entry-number log i = number-of-answer (place_test i (length log)) (get_or log i no_entry)
-
--- all rows go over, or none
-rows_of : (t : Bool) (rows : ℕ) → cond t rows 0 ≤ rows
-rows_of true rows = omega arith
-rows_of false rows = omega arith
-
-pub rows-at-most : (number rows : ℕ) → moved_rows number rows ≤ rows
-unfolding moved_rows
-rows-at-most number rows = rows_of (eqb number 0) rows
-
--- a row that goes over has room
-room_for : (t : Bool) (rows room i : ℕ) → (t ≡ true → rows ≤ room) → i < cond t rows 0 → i < room
-room_for true rows room i f h = let g : rows ≤ room = f refl in omega (arith, g, h)
-room_for false rows room i f h = absurd (omega (arith, h))
-
-pub row-has-room : (k o l d c a rows room i : ℕ) → i < moved_rows (moved_test k o l d c a rows room) rows → i < room
-unfolding moved_rows moved_test
-row-has-room k o l d c a rows room i h =
-    room_for (eqb (first_of (refuse_if (log_uneven k o l d c a) 12 ∷ refuse_if (ltb room rows) 13 ∷ [])) 0) rows room i
-    (λ e. ltb-false room rows
-    (refuse-zero (ltb room rows) 12
-    (first_of-zero (refuse_if (ltb room rows) 13) []
-    (first_of-zero (refuse_if (log_uneven k o l d c a) 12) (refuse_if (ltb room rows) 13 ∷ []) (eqb-true _ 0 e)).1).0))
-    h
 
 -- neither of two faults, none of five
 none_of_two : (a b : Bool) → (a || b) ≡ false → (a ≡ false) × (b ≡ false)

@@ -1,12 +1,12 @@
 -- Document 01, "Expected forms by place": "then the operation log is a lent slice of entries". How a log of entries and a log in
 -- columns correspond, both ways, and what is refused. Definitions only; assumes nothing.
-use Rattle.std.specs.Prelude.{ℕ, zero, suc, ◌<◌, ◌≤◌, ◌≡◌, cond, List, [], ◌∷◌, length, get_or, set, eqb, ltb}
+use Rattle.std.specs.Prelude.{ℕ, zero, suc, ◌<◌, ◌≤◌, ◌≡◌, cond, List, [], ◌∷◌, length, get_or, set, eqb, ltb, Result}
+use Rattle.std.specs.Prelude.{Ok as Found, Err as NotThere}
 use Rattle.basics.specs.Tests.{unless, refuse_if, first_of}
+use Rattle.basics.specs.Replies.{answered}
 use Rattle.session.specs.declared.Entry.{Entry}
 use Rattle.session.specs.Log.{Log, logged}
 use Rattle.session.specs.Tests.{log_uneven}
-use Rattle.session_entries.specs.declared.EntryAnswer.{EntryAnswer}
-use Rattle.session_entries.specs.declared.EntryAnswer.TheVariants.{Found, NotThere}
 
 -- the entry that no operation leaves: what a column that ends early stands for
 abbrev pub no_entry : Entry
@@ -17,6 +17,10 @@ no_entry = record { kind = 0; offset = 0; len = 0; digest = 0; changed = 0; answ
 unfoldable pub place_test : (index count : ℕ) → ℕ
 place_test i count = unless (ltb i count) 11
 
+-- what reading an entry answers: the entry, or the number that refuses
+abbrev pub EntryAnswer : Type 0
+EntryAnswer = Result Entry ℕ
+
 -- "Where an answer is an enum, a definition gives this paper's number and values for each of its cases."
 abbrev pub number_of_entry : EntryAnswer → ℕ
 number_of_entry (Found entry) = 0
@@ -24,7 +28,7 @@ number_of_entry (NotThere number) = number
 
 -- the answer that has a number: where it is 0, the entry
 abbrev pub entry_by : (number : ℕ) → Entry → EntryAnswer
-entry_by number entry = cond (eqb number 0) (Found entry) (NotThere number)
+entry_by number entry = answered number entry
 
 -- the entry at an index, or the number that refuses
 unfoldable pub entry_at : List Entry → (index : ℕ) → EntryAnswer

@@ -6,147 +6,76 @@
 #![tactic(auto)]
 
 ghost use Rattle.std.specs.Prelude.{◌≡◌, length, set, get_or};
-ghost use Rattle.session.specs.Log.{log_of};
-ghost use Rattle.session_entries.specs.Entries.{row_of, place_test, entry_at, moved_test, moved_rows, entries_number, to_entries};
+ghost use Rattle.basics.specs.Replies.{number_in, numbered};
+ghost use Rattle.refusals.specs.Numbers.{number_of};
+ghost use Rattle.session.specs.Lent.{log_seen};
+ghost use Rattle.session_entries.specs.Entries.{row_of, place_test, entry_at, moved_number, entries_number, to_entries};
 
-use session::Entry;
-
-// What reading an entry answers: the entry, or the number that refuses.
-#[derive(Clone, Copy)]
-pub enum EntryAnswer {
-    Found(Entry),
-    NotThere(u32),
-}
+use refusals::Refusal;
+use session::{Entry, LogRef};
 
 // The entry at an index, or 11 for an index outside.
-pub fn read_entry(log: &[Entry], index: usize) -> EntryAnswer
-    ensures { result ≡ entry_at log.now index }
+pub fn read_entry(log: &[Entry], index: usize) -> Result<Entry, Refusal>
+    ensures { numbered number_of result ≡ entry_at log.now index }
 {
-    if index < log.len() {
-        return EntryAnswer::Found(log[index]);
-    }
-    EntryAnswer::NotThere(11)
+    log.get(index).copied().ok_or(Refusal::NoSuchPlace)
 }
 
-// Stores an entry at an index, and answers 0, or 11 for an index outside: then nothing is changed.
-pub fn store_entry(log: &mut [Entry], index: usize, entry: Entry) -> u32
-    ensures { (result ≡ place_test index (length log.old)) × (log.new ≡ set log.old index entry) }
+// Stores an entry at an index, or answers 11 for an index outside: then nothing is changed.
+pub fn store_entry(log: &mut [Entry], index: usize, entry: Entry) -> Result<(), Refusal>
+    ensures { (number_in number_of result ≡ place_test index (length log.old)) × (log.new ≡ set log.old index entry) }
 {
-    if index < log.len() {
-        log[index] = entry;
-        return 0;
+    if index >= log.len() {
+        return Err(Refusal::NoSuchPlace);
     }
-    11
+    log[index] = entry;
+    Ok(())
 }
 
-// A cell of a column; 0 past its end.
-fn cell_u8(cells: &[u8], at: usize) -> u8
-    ensures { result ≡ get_or cells.now at 0 }
+// A cell of a column; `none` past its end.
+fn cell<T: Copy>(cells: &[T], at: usize, none: T) -> T
+    ensures { result ≡ get_or cells.now at none }
 {
-    if at < cells.len() {
-        return cells[at];
-    }
-    0
-}
-
-// A cell of a column; 0 past its end.
-fn cell_u32(cells: &[u32], at: usize) -> u32
-    ensures { result ≡ get_or cells.now at 0 }
-{
-    if at < cells.len() {
-        return cells[at];
-    }
-    0
-}
-
-// A cell of a column; 0 past its end.
-fn cell_u64(cells: &[u64], at: usize) -> u64
-    ensures { result ≡ get_or cells.now at 0 }
-{
-    if at < cells.len() {
-        return cells[at];
-    }
-    0
+    cells.get(at).copied().unwrap_or(none)
 }
 
 // A row of the columns as an entry; a column that ends before it gives 0.
-fn row_of(
-    kinds: &[u8],
-    offsets: &[u32],
-    lens: &[u32],
-    digests: &[u64],
-    changed: &[u8],
-    answered: &[u8],
-    index: usize,
-) -> Entry
-    ensures { result ≡ row_of (log_of kinds.now offsets.now lens.now digests.now changed.now answered.now) index }
+fn row_of(log: &LogRef<'_>, index: usize) -> Entry
+    ensures { result ≡ row_of (log_seen log.now) index }
 {
     Entry {
-        kind: cell_u8(kinds, index),
-        offset: cell_u32(offsets, index),
-        len: cell_u32(lens, index),
-        digest: cell_u64(digests, index),
-        changed: cell_u8(changed, index),
-        answered: cell_u8(answered, index),
+        kind: cell(log.kinds, index, 0),
+        offset: cell(log.offsets, index, 0),
+        len: cell(log.lens, index, 0),
+        digest: cell(log.digests, index, 0),
+        changed: cell(log.changed, index, 0),
+        answered: cell(log.answered, index, 0),
     }
 }
 
-// The number for handing `rows` rows to a place with room for `room`, over the columns' lengths: 12 where they are unequal, then
-// 13 where there is too little room.
-pub fn moved_number(
-    kinds: usize,
-    offsets: usize,
-    lens: usize,
-    digests: usize,
-    changed: usize,
-    answered: usize,
-    rows: usize,
-    room: usize,
-) -> u32
-    ensures { result ≡ moved_test kinds offsets lens digests changed answered rows room }
+// Whether `rows` rows may be handed to a place with room for `room`: 12 where the columns are unequal, then 13 where there is too
+// little room.
+pub fn moved_number(log: &LogRef<'_>, rows: usize, room: usize) -> Result<(), Refusal>
+    ensures { number_in number_of result ≡ moved_number (log_seen log.now) rows room }
 {
-    if session::log_uneven(kinds, offsets, lens, digests, changed, answered) {
-        return 12;
+    if log.uneven() {
+        return Err(Refusal::MalformedColumns);
     }
-    if room < rows { 13 } else { 0 }
+    if room < rows {
+        return Err(Refusal::ColumnsTooShort);
+    }
+    Ok(())
 }
 
-// How many rows go over: none where a number refuses.
-pub fn moved_rows(number: u32, rows: usize) -> usize
-    ensures { result ≡ moved_rows number rows }
+// Hands a session's log on as entries: each row of the columns becomes the entry at its index. Answers 12 or 13 where they are
+// refused.
+pub fn to_entries(log: &mut [Entry], from: &LogRef<'_>) -> Result<(), Refusal>
+    ensures { (number_in number_of result ≡ entries_number (log_seen from.now) log.old) × (log.new ≡ to_entries (log_seen from.now) log.old) }
 {
-    if number == 0 { rows } else { 0 }
-}
-
-// Hands a session's log on as entries: each row of the columns becomes the entry at its index. Answers 0, 12 or 13.
-pub fn to_entries(
-    log: &mut [Entry],
-    kinds: &[u8],
-    offsets: &[u32],
-    lens: &[u32],
-    digests: &[u64],
-    changed: &[u8],
-    answered: &[u8],
-) -> u32
-    ensures { (result ≡ entries_number (log_of kinds.now offsets.now lens.now digests.now changed.now answered.now) log.old) × (log.new ≡ to_entries (log_of kinds.now offsets.now lens.now digests.now changed.now answered.now) log.old) }
-{
-    let rows = kinds.len();
-    let number = moved_number(
-        rows,
-        offsets.len(),
-        lens.len(),
-        digests.len(),
-        changed.len(),
-        answered.len(),
-        rows,
-        log.len(),
-    );
-    let count = moved_rows(number, rows);
-    let mut index = 0;
-    while index < count {
-        let entry = row_of(kinds, offsets, lens, digests, changed, answered, index);
-        log[index] = entry;
-        index += 1;
+    let rows = from.kinds.len();
+    moved_number(from, rows, log.len())?;
+    for index in 0..rows {
+        log[index] = row_of(from, index);
     }
-    number
+    Ok(())
 }

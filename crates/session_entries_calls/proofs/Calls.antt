@@ -15,7 +15,7 @@ use Rattle.storage.specs.Span.{erase_test}
 use Rattle.landing.specs.Ending.{stop_number}
 use Rattle.session.specs.declared.Told.{Told}
 use Rattle.session.specs.declared.Counters.{Counters}
-use Rattle.session.specs.declared.Called.{Called}
+use Rattle.session.specs.Replies.{Called}
 use Rattle.session.specs.declared.Entry.{Entry}
 use Rattle.session.specs.Log.{Log, logged}
 use Rattle.session.specs.Tests.{size_test, log_uneven_of, log_short, log_length_test, log_test, operation_test}

@@ -8,16 +8,15 @@ use native.Mathlib.Omega.{arith}
 use lib.ListN.{length, set, length-replicate}
 use lib.Dec.{eqb, ltb}
 use borrow.Author.Tests.{eqb-true, ltb-true}
-use Rattle.basics.specs.Tests.{first_of}
-use Rattle.basics.proofs.Tests.{unless-zero, first_of-zero, first_of-rest}
+use Rattle.basics.proofs.Tests.{unless-zero, first_of-zero, first_of-pass, first_of-stop, first_of-one}
+use Rattle.basics.proofs.Replies.{answered-err}
 use Rattle.session.specs.declared.Entry.{Entry}
 use Rattle.session.specs.Log.{Log, logged}
-use Rattle.session_entries.specs.declared.EntryAnswer.{EntryAnswer}
-use Rattle.session_entries.specs.declared.EntryAnswer.TheVariants.{Found, NotThere}
-use Rattle.session_entries.specs.Entries.{no_entry, place_test, number_of_entry, entry_at, row_of, with_rows, entries_number, to_entries, OfLength}
+use Rattle.std.specs.Prelude.{Ok as Found, Err as NotThere}
+use Rattle.session_entries.specs.Entries.{EntryAnswer, no_entry, place_test, number_of_entry, entry_at, row_of, with_rows, entries_number, to_entries, OfLength}
 use Rattle.session_entries.proofs.Correspond.{entry-is-row, rows-length}
-use Rattle.session_entries.proofs.Refused.{entry-inside, number-of-answer, moved-fits}
-use Rattle.session_entries.proofs.Returned.{entries-all}
+use Rattle.session_entries.proofs.Refused.{place_inside, entry-inside, number-of-answer, moved-fits}
+use Rattle.session_entries.proofs.Returned.{entries-all, handed-length}
 use Rattle.session_entries.proofs.Recorded.{recorded-is-stored}
 use Rattle.session_entries_local.specs.Local.{blank_log, with_number, unless_refused, entry_with}
 
@@ -77,8 +76,42 @@ pub with-answer : (l : Log) (at : ℕ) (e : Entry) (i : ℕ) → number_of_entry
 unfolding entry_with
 with-answer l at e i = number-of-answer (with_number at i (length l.kinds) (entries_number l blank_log)) (row_of (logged l at e) i)
 
--- the number, told in four steps
-pub number-law : (at i rows number p next q r : ℕ) → p ≡ place_test i rows → next ≡ first_of (p ∷ number ∷ []) → q ≡ place_test at rows → r ≡ first_of (q ∷ next ∷ []) → r ≡ with_number at i rows number
-unfolding with_number
-number-law at i rows number p next q r e₁ e₂ e₃ e₄ =
-    e₄ ∙ (λ k. first_of (e₃ k ∷ e₂ k ∷ [])) ∙ (λ k. first_of (place_test at rows ∷ first_of (e₁ k ∷ number ∷ []) ∷ [])) ∙ first_of-rest (place_test at rows) (place_test i rows ∷ number ∷ [])
+-- ---- each way out: a test that refuses, the tests before it passed
+
+module _ (l : Log) (at : ℕ) (e : Entry) (i : ℕ) where
+  abbrev rows : ℕ
+  rows = length l.kinds
+
+  abbrev number : ℕ
+  number = entries_number l blank_log
+
+  stopped : (r : ℕ) → (r ≡ 0 → ⊥) → r ≡ with_number at i rows number → NotThere r ≡ entry_with l at e i
+  unfolding entry_with
+  stopped r h q = ap NotThere q ∙ sym (answered-err (with_number at i rows number) _ (λ z. h (q ∙ z)))
+
+  module _ (r : ℕ) (h : r ≡ 0 → ⊥) where
+    pub stopped-at : r ≡ place_test at rows → NotThere r ≡ entry_with l at e i
+    unfolding with_number
+    stopped-at q = stopped r h (q ∙ sym (first_of-stop (place_test at rows) _ (λ z. h (q ∙ z))))
+
+    pub stopped-index : 0 ≡ place_test at rows → r ≡ place_test i rows → NotThere r ≡ entry_with l at e i
+    unfolding with_number
+    stopped-index a q = stopped r h (q ∙ sym (first_of-pass (place_test at rows) _ (sym a) ∙ first_of-stop (place_test i rows) _ (λ z. h (q ∙ z))))
+
+    pub stopped-number : 0 ≡ place_test at rows → 0 ≡ place_test i rows → r ≡ number → NotThere r ≡ entry_with l at e i
+    unfolding with_number
+    stopped-number a b q =
+        stopped r h (q ∙ sym (first_of-pass (place_test at rows) _ (sym a) ∙ first_of-pass (place_test i rows) _ (sym b) ∙ first_of-one number))
+
+  module _ (a : 0 ≡ place_test at rows) (z : 0 ≡ number) where
+    -- the entry is stored in the local log
+    pub stored : place_test at (length (to_entries l blank_log)) ≡ 0
+    stored =
+        let fits = moved-fits l rows (length blank_log) (sym z) in
+        sym (place_inside at _ (below at rows (length blank_log) _ (place-zero at rows (sym a)) fits.1 (handed-length l blank_log)))
+
+    pub answered-so : 0 ≡ place_test i rows → entry_at (set (to_entries l blank_log) at e) i ≡ entry_with l at e i
+    unfolding with_number
+    answered-so b =
+        let m : with_number at i rows number ≡ 0 = first_of-pass (place_test at rows) _ (sym a) ∙ first_of-pass (place_test i rows) _ (sym b) ∙ first_of-one number ∙ sym z in
+        sym (ap (λ (n : ℕ). unless_refused n (entry_at (set (to_entries l blank_log) at e) i)) m) ∙ with-law l at e i

@@ -1,12 +1,11 @@
 -- Document 01, "Expected forms by place": "then the operation log is a lent slice of entries". Callers that have such a log in a local
 -- and lend it: what `entry_with` answers, and the log that `start_with` lays out. Definitions only; assumes nothing.
 use Rattle.std.specs.Prelude.{ℕ, cond, List, [], ◌∷◌, length, set, replicate, eqb}
+use Rattle.std.specs.Prelude.{Err as NotThere}
 use Rattle.basics.specs.Tests.{first_of}
 use Rattle.session.specs.declared.Entry.{Entry}
 use Rattle.session.specs.Log.{Log, logged}
-use Rattle.session_entries.specs.declared.EntryAnswer.{EntryAnswer}
-use Rattle.session_entries.specs.declared.EntryAnswer.TheVariants.{NotThere}
-use Rattle.session_entries.specs.Entries.{no_entry, place_test, entry_by, row_of, entries_number}
+use Rattle.session_entries.specs.Entries.{EntryAnswer, no_entry, place_test, entry_by, row_of, entries_number}
 
 -- the log in the local: as many entries as a session takes, none of which an operation left
 unfoldable pub blank_log : List Entry

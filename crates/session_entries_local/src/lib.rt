@@ -4,92 +4,60 @@
 #![tactic(auto)]
 
 ghost use Rattle.std.specs.Prelude.{◌≡◌};
-ghost use Rattle.session.specs.Log.{log_of};
+ghost use Rattle.basics.specs.Replies.{number_in, numbered};
+ghost use Rattle.refusals.specs.Numbers.{number_of};
+ghost use Rattle.session.specs.Lent.{log_in, log_seen, SameLog};
 ghost use Rattle.session_entries.specs.Entries.{place_test, columns_number, to_columns};
-ghost use Rattle.session_entries_local.specs.Local.{with_number, unless_refused, entry_with, started_with};
+ghost use Rattle.session_entries_local.specs.Local.{entry_with, started_with};
 
-use basics::first_of;
-use session::Entry;
-use session_entries::{EntryAnswer, read_entry, store_entry, to_entries};
+use refusals::Refusal;
+use session::{Entry, LogMut, LogRef};
+use session_entries::{read_entry, store_entry, to_entries};
 use session_entries_back::to_columns;
 
+// The entry that no operation left.
+const NO_ENTRY: Entry = Entry {
+    kind: 0,
+    offset: 0,
+    len: 0,
+    digest: 0,
+    changed: 0,
+    answered: 0,
+};
+
 // 11 where an index is outside so many rows.
-fn place_number(index: usize, rows: usize) -> u32
-    ensures { result ≡ place_test index rows }
+fn inside(index: usize, rows: usize) -> Result<(), Refusal>
+    ensures { number_in number_of result ≡ place_test index rows }
 {
-    if index < rows { 0 } else { 11 }
-}
-
-// The number of a call with two indices into so many rows: 11 where one is outside, then `number`, with which the rows were handed on.
-fn with_number(at: usize, index: usize, rows: usize, number: u32) -> u32
-    ensures { result ≡ with_number at index rows number }
-{
-    let next = first_of(place_number(index, rows), number);
-    first_of(place_number(at, rows), next)
-}
-
-// The answer, unless that number refuses.
-fn answer_for(at: usize, index: usize, rows: usize, number: u32, answer: EntryAnswer) -> EntryAnswer
-    ensures { result ≡ unless_refused (with_number at index rows number) answer }
-{
-    let refused = with_number(at, index, rows, number);
-    if refused == 0 {
-        answer
+    if index < rows {
+        Ok(())
     } else {
-        EntryAnswer::NotThere(refused)
+        Err(Refusal::NoSuchPlace)
     }
 }
 
 // The entry at `index` of a session's log in which `entry` is recorded at `at`; the columns stay as they are. Refused with 11 where
 // `at` or `index` is outside the columns, then with 12 where these are unequal, then with 13 where they have more than 1,024 rows.
-pub fn entry_with(
-    kinds: &[u8],
-    offsets: &[u32],
-    lens: &[u32],
-    digests: &[u64],
-    changed: &[u8],
-    answered: &[u8],
-    at: usize,
-    entry: Entry,
-    index: usize,
-) -> EntryAnswer
-    ensures { result ≡ entry_with (log_of kinds.now offsets.now lens.now digests.now changed.now answered.now) at entry index }
+pub fn entry_with(log: &LogRef<'_>, at: usize, entry: Entry, index: usize) -> Result<Entry, Refusal>
+    ensures { numbered number_of result ≡ entry_with (log_seen log.now) at entry index }
 {
-    let mut log = [Entry {
-        kind: 0,
-        offset: 0,
-        len: 0,
-        digest: 0,
-        changed: 0,
-        answered: 0,
-    }; 1024];
-    let number = to_entries(&mut log, kinds, offsets, lens, digests, changed, answered);
-    store_entry(&mut log, at, entry);
-    let answer = read_entry(&log, index);
-    answer_for(at, index, kinds.len(), number, answer)
+    let rows = log.kinds.len();
+    inside(at, rows)?;
+    inside(index, rows)?;
+    // As many as a session takes; a literal, which the lengths of the promise compute to.
+    let mut entries = [NO_ENTRY; 1024];
+    to_entries(&mut entries, log)?;
+    store_entry(&mut entries, at, entry)?;
+    read_entry(&entries, index)
 }
 
-// Lays a log of 1,024 entries that starts with `entry` out in columns: the other 1,023 rows are 0, and rows past 1,024 stay. Answers 0,
-// or 12 or 13, and then nothing changes.
-pub fn start_with(
-    entry: Entry,
-    kinds: &mut [u8],
-    offsets: &mut [u32],
-    lens: &mut [u32],
-    digests: &mut [u64],
-    changed: &mut [u8],
-    answered: &mut [u8],
-) -> u32
-    ensures { (result ≡ columns_number (started_with entry) (log_of kinds.old offsets.old lens.old digests.old changed.old answered.old)) × (log_of kinds.new offsets.new lens.new digests.new changed.new answered.new ≡ to_columns (started_with entry) (log_of kinds.old offsets.old lens.old digests.old changed.old answered.old)) }
+// Lays a log of 1,024 entries that starts with `entry` out in columns: the other 1,023 rows are 0, and rows past 1,024 stay. Answers
+// 12 or 13 where that is refused, and then nothing changes.
+pub fn start_with(entry: Entry, to: &mut LogMut<'_>) -> Result<(), Refusal>
+    ensures same { SameLog to.old to.new }
+    ensures left { (number_in number_of result ≡ columns_number (started_with entry) (log_in to.old)) × (log_in to.new ≡ to_columns (started_with entry) (log_in to.old)) }
 {
-    let mut log = [Entry {
-        kind: 0,
-        offset: 0,
-        len: 0,
-        digest: 0,
-        changed: 0,
-        answered: 0,
-    }; 1024];
-    store_entry(&mut log, 0, entry);
-    to_columns(&log, kinds, offsets, lens, digests, changed, answered)
+    let mut log = [NO_ENTRY; 1024];
+    log[0] = entry;
+    to_columns(&log, to)
 }

@@ -3,48 +3,37 @@ use mathlib.Core.Path.{◌≡◌, ap, ◌∙◌}
 use mathlib.Core.Bool.{Bool}
 use mathlib.Core.List.{List, [], ◌∷◌}
 use Prim.Native.Nat.{ℕ, ◌+◌, ◌-◌, ◌≤◌}
-use native.Mathlib.Nat.{le_refl}
 use lib.ListN.{length}
 use lib.Dec.{eqb}
-use Rattle.basics.specs.Tests.{flag, first_of}
-use Rattle.basics.proofs.Tests.{first_of-next, first_of-zero}
+use Rattle.basics.specs.Tests.{flag}
+use Rattle.basics.proofs.Tests.{first_of-zero}
 use Rattle.storage.specs.Span.{erase_test}
 use Rattle.storage.proofs.Nesting.{Legal, legal}
 use Rattle.device.specs.Media.{Applied, applied, erased, any_changed}
 use Rattle.landing.specs.Ending.{stop_number}
-use Rattle.landing.proofs.Bounds.{erase-landed-le}
 use Rattle.session.specs.declared.Told.{Told}
-use Rattle.session.specs.declared.Armed.{Armed}
-use Rattle.session.specs.declared.Armed.TheVariants.{Nothing, At}
 use Rattle.session.specs.declared.Counters.{Counters}
-use Rattle.session.specs.declared.Plan.{Plan}
+use Rattle.session.specs.Replies.{Plan}
 use Rattle.session.specs.Log.{Log, logged}
 use Rattle.session.specs.Tests.{size_test, log_test, operation_test}
-use Rattle.session.specs.Armed.{armed_on, erase_lands}
-use Rattle.session.specs.Written.{Landing, written}
-use Rattle.session.proofs.Writing.{call-refused, call-taken, landed-so}
+use Rattle.session.specs.Armed.{Armed, armed_on, erase_lands, lands}
+use Rattle.session.specs.Written.{planned, planned_by, Landing, written}
+use Rattle.session.proofs.Writing.{lands-le as all-le, erase-lands, call-refused, call-taken, landed-so}
 use Rattle.session_erase.specs.Erase.{erase_number, erase_plan, erase_landing, erase_entry, erase_call}
 
--- the tests, two at a time
-pub erase-tests : (t : Told) (c : Counters) (offset len media copy log sizes span full stop last mid next r : ℕ)
-    → sizes ≡ size_test t.geometry media copy → span ≡ erase_test t.geometry offset len → full ≡ operation_test c.operations
-    → stop ≡ stop_number c.stop
-    → last ≡ first_of (span ∷ full ∷ []) → mid ≡ first_of (stop ∷ last ∷ []) → next ≡ first_of (log ∷ mid ∷ []) → r ≡ first_of (sizes ∷ next ∷ [])
-    → r ≡ erase_number t c offset len media copy log
-unfolding erase_number
-erase-tests t c offset len media copy log sizes span full stop last mid next r z p f s e1 e2 e3 e4 =
-    first_of-next sizes (log ∷ stop ∷ span ∷ full ∷ []) next r
-    (first_of-next log (stop ∷ span ∷ full ∷ []) mid next (first_of-next stop (span ∷ full ∷ []) last mid e1 e2) e3) e4
-    ∙ simp (z, p, f, s)
-
--- no more lands than the length
 pub lands-le : (a : Armed) (len block : ℕ) → erase_lands a len block ≤ len
-lands-le Nothing len block = le_refl len
-lands-le (At j) len block = erase-landed-le j len block
+lands-le a len block = rw (← erase-lands a len block) (all-le len block block a)
 
-pub plan-le : (t : Told) (c : Counters) (offset len : ℕ) (p : Plan) → p ≡ erase_plan t c offset len → p.landed ≤ len
-unfolding erase_plan
-plan-le t c offset len p e = rw e (lands-le (armed_on t.armed c.operations) len t.geometry.erase_size)
+module _ (t : Told) (c : Counters) (offset len : ℕ) (p : Plan)
+    (e : p ≡ planned_by c (armed_on t.armed c.operations) offset len (lands len t.geometry.erase_size t.geometry.erase_size)) where
+  -- the plan as the code makes it
+  pub plan-is : p ≡ erase_plan t c offset len
+  unfolding erase_plan
+  plan-is = e ∙ ap (planned c (armed_on t.armed c.operations) offset len) (erase-lands (armed_on t.armed c.operations) len t.geometry.erase_size)
+
+  -- no more lands than the length
+  pub plan-le : p.landed ≤ len
+  plan-le = rw e (all-le len t.geometry.erase_size t.geometry.erase_size (armed_on t.armed c.operations))
 
 -- a taken erase names a legal span
 pub erase-legal : (t : Told) (c : Counters) (offset len media copy log : ℕ) → erase_number t c offset len media copy log ≡ 0
@@ -72,14 +61,11 @@ landing offset len landed media copy media' copy' changed other e f =
     let b : changed ≡ any_changed media (erased media offset landed) = ap (λ (x : Applied). x.changed) e in
     λ i. record { media = m i; copy = k i; changed = b i }
 
-module _ (t : Told) (c : Counters) (offset len : ℕ) (media copy : List ℕ) (l : Log) (log n : ℕ)
-    (p : log ≡ log_test l) (e : n ≡ erase_number t c offset len (length media) (length copy) log) where
-  number : n ≡ erase_number t c offset len (length media) (length copy) (log_test l)
-  number = e ∙ ap (erase_number t c offset len (length media) (length copy)) p
-
+module _ (t : Told) (c : Counters) (offset len : ℕ) (media copy : List ℕ) (l : Log) (n : ℕ)
+    (e : n ≡ erase_number t c offset len (length media) (length copy) (log_test l)) where
   pub erase-refused : (n ≡ 0 → ⊥) → written (record { answer = n; counters = c }) media copy l ≡ erase_call t c offset len media copy l
   unfolding erase_call
-  erase-refused h = call-refused c media copy l _ _ n number h
+  erase-refused h = call-refused c media copy l _ _ n e h
 
   pub erase-taken : n ≡ 0 → (plan : Plan) (media' copy' : List ℕ) (changed : Bool) (f g : ℕ) (l' : Log)
       → plan ≡ erase_plan t c offset len
@@ -89,6 +75,6 @@ module _ (t : Told) (c : Counters) (offset len : ℕ) (media copy : List ℕ) (l
       → written plan.reply media' copy' l' ≡ erase_call t c offset len media copy l
   unfolding erase_call
   erase-taken z plan media' copy' changed f g l' a d b h q =
-      call-taken c media copy l _ _ n number z _
+      call-taken c media copy l _ _ n e z _
       (landed-so c l l' (erase_entry offset len) (λ (k : ℕ). erase_landing offset len k media copy) plan (erase_plan t c offset len)
       (record { media = media'; copy = copy'; changed = changed }) _ a d (simp (b, h)) q)

@@ -18,12 +18,11 @@ use Rattle.device.proofs.Erasing.{erased-outside}
 use Rattle.landing.specs.declared.Stop.TheVariants.{Running}
 use Rattle.landing.specs.Ending.{stop_number}
 use Rattle.session.specs.declared.Told.{Told}
-use Rattle.session.specs.declared.Armed.{Armed}
-use Rattle.session.specs.declared.Armed.TheVariants.{Nothing}
+use Rattle.std.specs.Prelude.{None as Nothing}
 use Rattle.session.specs.declared.Counters.{Counters}
 use Rattle.session.specs.Log.{Log}
 use Rattle.session.specs.Tests.{size_test, log_test, operation_test}
-use Rattle.session.specs.Armed.{armed_on, erase_lands}
+use Rattle.session.specs.Armed.{Armed, armed_on, erase_lands}
 use Rattle.session.specs.Written.{Written, written}
 use Rattle.session.proofs.Writing.{unarmed-plan, plan-counts, refuses, takes, either}
 use Rattle.session_erase.specs.Erase.{erase_number, erase_number_of, erase_plan, erase_landing, erase_taken, erase_call}

@@ -5,13 +5,12 @@ use Rattle.storage.specs.Span.{erase_test}
 use Rattle.device.specs.Media.{erased, any_changed}
 use Rattle.landing.specs.Ending.{stop_number}
 use Rattle.session.specs.declared.Told.{Told}
-use Rattle.session.specs.declared.Armed.{Armed}
 use Rattle.session.specs.declared.Counters.{Counters}
 use Rattle.session.specs.declared.Entry.{Entry}
-use Rattle.session.specs.declared.Plan.{Plan}
+use Rattle.session.specs.Replies.{Plan}
 use Rattle.session.specs.Log.{Log}
 use Rattle.session.specs.Tests.{size_test, log_test, operation_test}
-use Rattle.session.specs.Armed.{armed_on, erase_lands}
+use Rattle.session.specs.Armed.{Armed, armed_on, erase_lands}
 use Rattle.session.specs.Written.{planned_by, Landing, Written, landed_so, written_by}
 
 -- "A session call first tests the lengths lent to it (7, 12, 13), then stopped, then geometry, then 20, then 27.", over the lengths

@@ -2,20 +2,17 @@
 -- that its counters were put back, and gives what is left.
 --     start-fresh, start-refused               a start
 --     program-told, erase-told, barrier-told   the operations
---     read_told                                a read
 -- Assumes nothing.
-use mathlib.Core.Path.{◌≡◌, sym, ap, ◌∙◌}
+use mathlib.Core.Path.{◌≡◌, sym, ap, ap₂, ◌∙◌}
 use mathlib.Core.List.{List}
 use Prim.Native.Nat.{ℕ}
 use Rattle.session.specs.declared.Told.{Told}
 use Rattle.session.specs.declared.Counters.{Counters}
-use Rattle.session.specs.declared.Called.{Called}
-use Rattle.session.specs.declared.Started.{Started}
-use Rattle.session.specs.declared.Started.TheVariants.{Fresh, NotStarted}
+use Rattle.session.specs.Replies.{Called}
+use Rattle.std.specs.Prelude.{Ok as Fresh, Err as NotStarted}
 use Rattle.session.specs.Log.{Log, Marks}
-use Rattle.session.specs.Start.{Opened, opened, started}
+use Rattle.session.specs.Start.{Started, Opened, opened, started}
 use Rattle.session.specs.Barrier.{Ordered, ordered, barriered}
-use Rattle.session.specs.Read.{fetched, read_by}
 use Rattle.session.specs.Written.{Written, written}
 use Rattle.session_erase.specs.Erase.{erase_call}
 use Rattle.session_program.specs.Program.{program_call}
@@ -41,15 +38,15 @@ module _ (given t : Told) (same : given ≡ t) where
 
   -- ---- the operations
 
-  module _ (before c : Counters) (as_before : before ≡ c) (reply : Called) (state left : List ℕ) (kept : left ≡ counters_in reply.counters state) where
+  module _ (before c : Counters) (as_before : before ≡ c) (reply : Called) (state left : List ℕ) (n : ℕ) (put : (n ≡ reply.answer) × (left ≡ counters_in reply.counters state)) where
     written-told : (m k : List ℕ) (out : Log) (w : Written) → written reply m k out ≡ w
-        → write_left reply.answer left m k out ≡ written_over state w
+        → write_left n left m k out ≡ written_over state w
     written-told m k out w told =
-        ap (λ (s : List ℕ). write_left reply.answer s m k out) kept ∙ ap (λ (v : Written). written_over state v) told
+        ap₂ (λ (a : ℕ) (s : List ℕ). write_left a s m k out) put.0 put.1 ∙ ap (λ (v : Written). written_over state v) told
 
     pub program-told : (offset : ℕ) (bytes media copy : List ℕ) (l : Log) (m k : List ℕ) (out : Log)
         → written reply m k out ≡ program_call given before offset bytes media copy l
-        → write_left reply.answer left m k out ≡ written_over state (program_call t c offset bytes media copy l)
+        → write_left n left m k out ≡ written_over state (program_call t c offset bytes media copy l)
     program-told offset bytes media copy l m k out told =
         written-told m k out _
         (told
@@ -58,7 +55,7 @@ module _ (given t : Told) (same : given ≡ t) where
 
     pub erase-told : (offset len : ℕ) (media copy : List ℕ) (l : Log) (m k : List ℕ) (out : Log)
         → written reply m k out ≡ erase_call given before offset len media copy l
-        → write_left reply.answer left m k out ≡ written_over state (erase_call t c offset len media copy l)
+        → write_left n left m k out ≡ written_over state (erase_call t c offset len media copy l)
     erase-told offset len media copy l m k out told =
         written-told m k out _
         (told
@@ -66,16 +63,8 @@ module _ (given t : Told) (same : given ≡ t) where
         ∙ ap (λ (v : Counters). erase_call t v offset len media copy l) as_before)
 
     pub barrier-told : (l out : Log) → ordered reply out ≡ barriered given before l
-        → barrier_left reply.answer left out ≡ ordered_over state (barriered t c l)
+        → barrier_left n left out ≡ ordered_over state (barriered t c l)
     barrier-told l out told =
-        ap (λ (s : List ℕ). barrier_left reply.answer s out) kept
+        ap₂ (λ (a : ℕ) (s : List ℕ). barrier_left a s out) put.0 put.1
         ∙ ap (λ (o : Ordered). ordered_over state o)
         (told ∙ ap (λ (u : Told). barriered u before l) same ∙ ap (λ (v : Counters). barriered t v l) as_before)
-
-  -- ---- a read
-
-  pub read_told : (before c : Counters) → before ≡ c → (media : List ℕ) (offset : ℕ) (buffer : List ℕ) (answer : ℕ) (left : List ℕ)
-      → fetched answer left ≡ read_by given before media offset buffer
-      → fetched answer left ≡ read_by t c media offset buffer
-  read_told before c as_before media offset buffer answer left told =
-      told ∙ ap (λ (u : Told). read_by u before media offset buffer) same ∙ ap (λ (v : Counters). read_by t v media offset buffer) as_before

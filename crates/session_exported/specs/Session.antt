@@ -1,9 +1,7 @@
 -- What each exported call leaves, with the counters as numbers. Definitions only; assumes nothing.
-use Rattle.std.specs.Prelude.{List, ℕ}
-use Rattle.session.specs.declared.Started.{Started}
-use Rattle.session.specs.declared.Started.TheVariants.{Fresh, NotStarted}
+use Rattle.std.specs.Prelude.{Ok as Fresh, Err as NotStarted, List, ℕ}
 use Rattle.session.specs.Log.{Log}
-use Rattle.session.specs.Start.{Opened}
+use Rattle.session.specs.Start.{Started, Opened}
 use Rattle.session.specs.Barrier.{Ordered}
 use Rattle.session.specs.Written.{Written}
 use Rattle.session_numbers.specs.Numbers.{counters_in}

@@ -15,7 +15,8 @@ ghost use Rattle.session_program.specs.Program.{program_call};
 ghost use Rattle.session_numbers.specs.Numbers.{told_of, counters_of};
 ghost use Rattle.session_exported.specs.Session.{start_left, opened_over, write_left, written_over, barrier_left, ordered_over};
 
-use session::Started;
+use basics::Numbered;
+use session::{LogMut, LogRef, MarksRef};
 
 // `start`: the number that refuses it, the counters and the media; a refusal leaves both.
 #[unsafe(no_mangle)]
@@ -37,15 +38,21 @@ pub extern "C" fn session_start(
     ensures { start_left result state.new media.new ≡ opened_over state.old (started (told_of told.now) media.old (length copy.now) (log_of kinds.now offsets.now lens.now digests.now changed.now answered.now) (marks_of codes.now ids.now places.now)) }
 {
     let given = session_numbers::told_of(told);
-    let begun = session_calls::start(
-        given, media, copy, kinds, offsets, lens, digests, changed, answered, codes, ids, places,
-    );
-    match begun {
-        Started::Fresh(counters) => {
+    let log = LogRef {
+        kinds,
+        offsets,
+        lens,
+        digests,
+        changed,
+        answered,
+    };
+    let marks = MarksRef { codes, ids, places };
+    match session_calls::start(given, media, copy, &log, &marks) {
+        Ok(counters) => {
             session_numbers::keep(state, counters);
             0
         }
-        Started::NotStarted(number) => number,
+        Err(refusal) => refusal.number(),
     }
 }
 
@@ -69,13 +76,16 @@ pub extern "C" fn session_program(
 {
     let given = session_numbers::told_of(told);
     let counters = session_numbers::counters_of(state);
-    let programmed = session_program::program(
-        given, counters, offset, bytes, media, copy, kinds, offsets, lens, digests, changed,
+    let mut log = LogMut {
+        kinds,
+        offsets,
+        lens,
+        digests,
+        changed,
         answered,
-    );
-    let after_program = programmed.counters;
-    session_numbers::keep(state, after_program);
-    programmed.answer
+    };
+    let called = session_program::program(given, counters, offset, bytes, media, copy, &mut log);
+    session_numbers::put_back(state, called)
 }
 
 // `erase`: its answer, and the counters, media, copy and log after it.
@@ -98,12 +108,16 @@ pub extern "C" fn session_erase(
 {
     let given = session_numbers::told_of(told);
     let counters = session_numbers::counters_of(state);
-    let erased = session_erase::erase(
-        given, counters, offset, len, media, copy, kinds, offsets, lens, digests, changed, answered,
-    );
-    let after_erase = erased.counters;
-    session_numbers::keep(state, after_erase);
-    erased.answer
+    let mut log = LogMut {
+        kinds,
+        offsets,
+        lens,
+        digests,
+        changed,
+        answered,
+    };
+    let called = session_erase::erase(given, counters, offset, len, media, copy, &mut log);
+    session_numbers::put_back(state, called)
 }
 
 // `barrier`: its answer, and the counters and the log after it.
@@ -122,12 +136,16 @@ pub extern "C" fn session_barrier(
 {
     let given = session_numbers::told_of(told);
     let counters = session_numbers::counters_of(state);
-    let ordered = session_calls::barrier(
-        given, counters, kinds, offsets, lens, digests, changed, answered,
-    );
-    let after_barrier = ordered.counters;
-    session_numbers::keep(state, after_barrier);
-    ordered.answer
+    let mut log = LogMut {
+        kinds,
+        offsets,
+        lens,
+        digests,
+        changed,
+        answered,
+    };
+    let called = session_calls::barrier(given, counters, &mut log);
+    session_numbers::put_back(state, called)
 }
 
 // `read`: its answer, and the buffer after it; the counters stay.
@@ -143,5 +161,5 @@ pub extern "C" fn session_read(
 {
     let given = session_numbers::told_of(told);
     let counters = session_numbers::counters_of(state);
-    session_calls::read(given, counters, media, offset, dst)
+    basics::number_in(session_calls::read(given, counters, media, offset, dst))
 }

@@ -12,11 +12,12 @@
 // The Rust has no such forms, so the file `stdout` replays nothing: each line follows from document 01 and the sentences above.
 #![tactic(auto)]
 
+use basics::number_in;
 use device::OneWayBits;
 use inject::{Injection, Interruption, Progress};
 use landing::Stop;
-use session::{Armed, Counters, Entry, Told};
-use session_entries::EntryAnswer;
+use refusals::Refusal;
+use session::{Counters, Entry, LogMut, LogRef, Told};
 use std::io;
 use storage::Geometry;
 
@@ -27,92 +28,55 @@ fn told() -> Told {
         program_size: 4,
         read_size: 4,
     };
-    let armed = Armed::At(Injection {
+    let armed = Injection {
         op: 1,
         progress: Progress::None,
         interruption: Interruption::PowerLoss,
-    });
-    session::told_with(geometry, OneWayBits::Absorbed, armed)
-}
-
-fn print_number(rt: &impl Print, n: u64, after: &str) -> io::Result<()> {
-    print!(rt; "{n}{after}")
+    };
+    session::told_with(geometry, OneWayBits::Absorbed, Some(armed))
 }
 
 fn show_entry(rt: &impl Print, entry: Entry) -> io::Result<()> {
-    print_number(rt, entry.kind as u64, " ")?;
-    print_number(rt, entry.offset as u64, " ")?;
-    print_number(rt, entry.len as u64, " ")?;
-    print_number(rt, entry.digest, " ")?;
-    print_number(rt, entry.changed as u64, " ")?;
-    print_number(rt, entry.answered as u64, "\n")
+    let Entry {
+        kind,
+        offset,
+        len,
+        digest,
+        changed,
+        answered,
+    } = entry;
+    print!(rt; "{kind} {offset} {len} {digest} {changed} {answered}\n")
 }
 
-fn cell_u8(cells: &[u8], at: usize) -> u8 {
-    if at < cells.len() {
-        return cells[at];
-    }
-    0
+// A cell of a column; 0 past its end.
+fn cell<T: Copy + Default>(cells: &[T], at: usize) -> T {
+    cells.get(at).copied().unwrap_or_default()
 }
 
-fn cell_u32(cells: &[u32], at: usize) -> u32 {
-    if at < cells.len() {
-        return cells[at];
-    }
-    0
-}
-
-fn cell_u64(cells: &[u64], at: usize) -> u64 {
-    if at < cells.len() {
-        return cells[at];
-    }
-    0
-}
-
-fn show_row(
-    rt: &impl Print,
-    kinds: &[u8],
-    offsets: &[u32],
-    lens: &[u32],
-    digests: &[u64],
-    changed: &[u8],
-    answered: &[u8],
-    index: usize,
-) -> io::Result<()> {
-    print_number(rt, cell_u8(kinds, index) as u64, " ")?;
-    print_number(rt, cell_u32(offsets, index) as u64, " ")?;
-    print_number(rt, cell_u32(lens, index) as u64, " ")?;
-    print_number(rt, cell_u64(digests, index), " ")?;
-    print_number(rt, cell_u8(changed, index) as u64, " ")?;
-    print_number(rt, cell_u8(answered, index) as u64, "\n")
+fn show_row(rt: &impl Print, log: &LogRef<'_>, index: usize) -> io::Result<()> {
+    let row = Entry {
+        kind: cell(log.kinds, index),
+        offset: cell(log.offsets, index),
+        len: cell(log.lens, index),
+        digest: cell(log.digests, index),
+        changed: cell(log.changed, index),
+        answered: cell(log.answered, index),
+    };
+    show_entry(rt, row)
 }
 
 fn step(
     rt: &impl Print,
     counters: Counters,
-    kinds: &mut [u8],
-    offsets: &mut [u32],
-    lens: &mut [u32],
-    digests: &mut [u64],
-    changed: &mut [u8],
-    answered: &mut [u8],
+    log: &mut LogMut<'_>,
     index: usize,
 ) -> io::Result<Counters> {
-    let called = session_lent::barrier_once(
-        told(),
-        counters,
-        kinds,
-        offsets,
-        lens,
-        digests,
-        changed,
-        answered,
-    );
-    let after = called.counters;
-    print_number(rt, called.answer as u64, " ")?;
-    print_number(rt, after.operations as u64, " ")?;
-    show_row(rt, kinds, offsets, lens, digests, changed, answered, index)?;
-    Ok(after)
+    let called = session_lent::barrier_once(told(), counters, log);
+    let answer = number_in(called.answer);
+    let operations = called.counters.operations;
+    print!(rt; "{answer} {operations} ")?;
+    show_row(rt, &log.seen(), index)?;
+    Ok(called.counters)
 }
 
 fn fresh() -> Counters {
@@ -137,191 +101,99 @@ fn erased() -> Entry {
     }
 }
 
-fn ask(
-    rt: &impl Print,
-    kinds: &[u8],
-    offsets: &[u32],
-    lens: &[u32],
-    digests: &[u64],
-    changed: &[u8],
-    answered: &[u8],
-    at: usize,
-    index: usize,
-) -> io::Result<()> {
-    let answer = session_entries_local::entry_with(
-        kinds,
-        offsets,
-        lens,
-        digests,
-        changed,
-        answered,
-        at,
-        erased(),
-        index,
-    );
-    match answer {
-        EntryAnswer::Found(entry) => {
-            print_number(rt, 0, " ")?;
+fn ask(rt: &impl Print, log: &LogRef<'_>, at: usize, index: usize) -> io::Result<()> {
+    match session_entries_local::entry_with(log, at, erased(), index) {
+        Ok(entry) => {
+            print!(rt; "0 ")?;
             show_entry(rt, entry)
         }
-        EntryAnswer::NotThere(number) => print_number(rt, number as u64, "\n"),
+        Err(refusal) => {
+            let number = number_in::<(), Refusal>(Err(refusal));
+            print!(rt; "{number}\n")
+        }
     }
 }
 
-fn ask_all(
-    rt: &impl Print,
-    kinds: &[u8],
-    offsets: &[u32],
-    lens: &[u32],
-    digests: &[u64],
-    changed: &[u8],
-    answered: &[u8],
-) -> io::Result<()> {
-    ask(rt, kinds, offsets, lens, digests, changed, answered, 2, 0)?;
-    ask(rt, kinds, offsets, lens, digests, changed, answered, 2, 2)?;
-    ask(rt, kinds, offsets, lens, digests, changed, answered, 2, 3)?;
-    ask(
-        rt, kinds, offsets, lens, digests, changed, answered, 2, 1024,
-    )?;
-    ask(
-        rt, kinds, offsets, lens, digests, changed, answered, 1024, 0,
-    )?;
+fn ask_all(rt: &impl Print, log: &LogRef<'_>) -> io::Result<()> {
+    ask(rt, log, 2, 0)?;
+    ask(rt, log, 2, 2)?;
+    ask(rt, log, 2, 3)?;
+    ask(rt, log, 2, 1024)?;
+    ask(rt, log, 1024, 0)?;
     let short = [0u8; 1023];
-    ask(rt, &short, offsets, lens, digests, changed, answered, 2, 0)?;
-    ask(
-        rt, &short, offsets, lens, digests, changed, answered, 2, 1023,
-    )
+    let uneven = LogRef {
+        kinds: &short,
+        ..*log
+    };
+    ask(rt, &uneven, 2, 0)?;
+    ask(rt, &uneven, 2, 1023)
 }
 
 fn ask_long(rt: &impl Print) -> io::Result<()> {
-    let kinds = [0u8; 1025];
-    let offsets = [0u32; 1025];
-    let lens = [0u32; 1025];
-    let digests = [0u64; 1025];
-    let changed = [0u8; 1025];
-    let answered = [0u8; 1025];
-    ask(
-        rt, &kinds, &offsets, &lens, &digests, &changed, &answered, 2, 0,
-    )
+    let bytes = [0u8; 1025];
+    let words = [0u32; 1025];
+    let log = LogRef {
+        kinds: &bytes,
+        offsets: &words,
+        lens: &words,
+        digests: &[0u64; 1025],
+        changed: &bytes,
+        answered: &bytes,
+    };
+    ask(rt, &log, 2, 0)
 }
 
-fn start(
-    rt: &impl Print,
-    kinds: &mut [u8],
-    offsets: &mut [u32],
-    lens: &mut [u32],
-    digests: &mut [u64],
-    changed: &mut [u8],
-    answered: &mut [u8],
-) -> io::Result<()> {
-    let answer = session_entries_local::start_with(
-        erased(),
-        kinds,
-        offsets,
-        lens,
-        digests,
-        changed,
-        answered,
-    );
-    print_number(rt, answer as u64, " ")?;
-    show_row(rt, kinds, offsets, lens, digests, changed, answered, 0)
+fn start(rt: &impl Print, log: &mut LogMut<'_>) -> io::Result<()> {
+    let answer = number_in(session_entries_local::start_with(erased(), log));
+    print!(rt; "{answer} ")?;
+    show_row(rt, &log.seen(), 0)
 }
 
 fn start_all(rt: &impl Print) -> io::Result<()> {
-    let mut kinds = [7u8; 1024];
-    let mut offsets = [7u32; 1024];
-    let mut lens = [7u32; 1024];
-    let mut digests = [7u64; 1024];
-    let mut changed = [7u8; 1024];
-    let mut answered = [7u8; 1024];
-    start(
-        rt,
-        &mut kinds,
-        &mut offsets,
-        &mut lens,
-        &mut digests,
-        &mut changed,
-        &mut answered,
-    )?;
-    show_row(
-        rt, &kinds, &offsets, &lens, &digests, &changed, &answered, 1,
-    )
+    let mut log = LogMut {
+        kinds: &mut [7u8; 1024],
+        offsets: &mut [7u32; 1024],
+        lens: &mut [7u32; 1024],
+        digests: &mut [7u64; 1024],
+        changed: &mut [7u8; 1024],
+        answered: &mut [7u8; 1024],
+    };
+    start(rt, &mut log)?;
+    show_row(rt, &log.seen(), 1)
 }
 
-fn start_short(rt: &impl Print) -> io::Result<()> {
-    let mut longer = [7u8; 1024];
-    let mut kinds = [7u8; 1023];
-    let mut offsets = [7u32; 1023];
-    let mut lens = [7u32; 1023];
-    let mut digests = [7u64; 1023];
-    let mut changed = [7u8; 1023];
-    let mut answered = [7u8; 1023];
-    start(
-        rt,
-        &mut longer,
-        &mut offsets,
-        &mut lens,
-        &mut digests,
-        &mut changed,
-        &mut answered,
-    )?;
-    start(
-        rt,
-        &mut kinds,
-        &mut offsets,
-        &mut lens,
-        &mut digests,
-        &mut changed,
-        &mut answered,
-    )
+// The first of the columns may be longer than the others.
+fn start_short(rt: &impl Print, kinds: &mut [u8]) -> io::Result<()> {
+    let mut log = LogMut {
+        kinds,
+        offsets: &mut [7u32; 1023],
+        lens: &mut [7u32; 1023],
+        digests: &mut [7u64; 1023],
+        changed: &mut [7u8; 1023],
+        answered: &mut [7u8; 1023],
+    };
+    start(rt, &mut log)
 }
 
 fn run_session(rt: &impl Print) -> io::Result<()> {
-    let mut kinds = [0u8; 1024];
-    let mut offsets = [0u32; 1024];
-    let mut lens = [0u32; 1024];
-    let mut digests = [0u64; 1024];
-    let mut changed = [0u8; 1024];
-    let mut answered = [0u8; 1024];
-    let first = step(
-        rt,
-        fresh(),
-        &mut kinds,
-        &mut offsets,
-        &mut lens,
-        &mut digests,
-        &mut changed,
-        &mut answered,
-        0,
-    )?;
-    let second = step(
-        rt,
-        first,
-        &mut kinds,
-        &mut offsets,
-        &mut lens,
-        &mut digests,
-        &mut changed,
-        &mut answered,
-        1,
-    )?;
-    step(
-        rt,
-        second,
-        &mut kinds,
-        &mut offsets,
-        &mut lens,
-        &mut digests,
-        &mut changed,
-        &mut answered,
-        2,
-    )?;
-    ask_all(rt, &kinds, &offsets, &lens, &digests, &changed, &answered)
+    let mut log = LogMut {
+        kinds: &mut [0u8; 1024],
+        offsets: &mut [0u32; 1024],
+        lens: &mut [0u32; 1024],
+        digests: &mut [0u64; 1024],
+        changed: &mut [0u8; 1024],
+        answered: &mut [0u8; 1024],
+    };
+    let first = step(rt, fresh(), &mut log, 0)?;
+    let second = step(rt, first, &mut log, 1)?;
+    step(rt, second, &mut log, 2)?;
+    ask_all(rt, &log.seen())
 }
 
 fn main(rt: HostRuntime) -> io::Result<()> {
     run_session(&rt)?;
     ask_long(&rt)?;
     start_all(&rt)?;
-    start_short(&rt)
+    start_short(&rt, &mut [7u8; 1024])?;
+    start_short(&rt, &mut [7u8; 1023])
 }

@@ -5,51 +5,39 @@
 #![tactic(auto)]
 
 ghost use Rattle.std.specs.Prelude.{◌≡◌};
-ghost use Rattle.session.specs.Log.{log_of};
+ghost use Rattle.basics.specs.Replies.{number_in};
+ghost use Rattle.refusals.specs.Numbers.{number_of};
+ghost use Rattle.session.specs.Lent.{log_in, SameLog};
+ghost use Rattle.session.specs.Replies.{told_as};
 ghost use Rattle.session.specs.Barrier.{ordered, barriered};
 ghost use Rattle.session_lent.specs.Lent.{called_of};
 
-use session::{Called, Counters, Told};
+use refusals::Refusal;
+use session::{Called, Counters, LogMut, Told};
 
-// Orders everything before it against everything after it, answers document 01's number, and leaves the counters after it in
-// `counters`. A refusal leaves them and every column as they were.
+// Orders everything before it against everything after it, and leaves the counters after it in `counters`. A refusal leaves
+// them and every column as they were.
 pub fn barrier_lent(
     told: Told,
     counters: &mut Counters,
-    kinds: &mut [u8],
-    offsets: &mut [u32],
-    lens: &mut [u32],
-    digests: &mut [u64],
-    changed: &mut [u8],
-    answered: &mut [u8],
-) -> u32
-    ensures { ordered (called_of result counters.new) (log_of kinds.new offsets.new lens.new digests.new changed.new answered.new) ≡ barriered told counters.old (log_of kinds.old offsets.old lens.old digests.old changed.old answered.old) }
+    log: &mut LogMut<'_>,
+) -> Result<(), Refusal>
+    ensures same { SameLog log.old log.new }
+    ensures left { ordered (called_of (number_in number_of result) counters.new) (log_in log.new) ≡ barriered told counters.old (log_in log.old) }
 {
-    let called = session_calls::barrier(
-        told, *counters, kinds, offsets, lens, digests, changed, answered,
-    );
+    let called = session_calls::barrier(told, *counters, log);
     *counters = called.counters;
     called.answer
 }
 
 // A barrier on counters that it has in a local and lends: for a caller without a reference to lend, and the by-value barrier's
 // promise word for word.
-pub fn barrier_once(
-    told: Told,
-    counters: Counters,
-    kinds: &mut [u8],
-    offsets: &mut [u32],
-    lens: &mut [u32],
-    digests: &mut [u64],
-    changed: &mut [u8],
-    answered: &mut [u8],
-) -> Called
-    ensures { ordered result (log_of kinds.new offsets.new lens.new digests.new changed.new answered.new) ≡ barriered told counters (log_of kinds.old offsets.old lens.old digests.old changed.old answered.old) }
+pub fn barrier_once(told: Told, counters: Counters, log: &mut LogMut<'_>) -> Called
+    ensures same { SameLog log.old log.new }
+    ensures left { ordered (told_as result) (log_in log.new) ≡ barriered told counters (log_in log.old) }
 {
     let mut held = counters;
-    let answer = barrier_lent(
-        told, &mut held, kinds, offsets, lens, digests, changed, answered,
-    );
+    let answer = barrier_lent(told, &mut held, log);
     Called {
         answer,
         counters: held,

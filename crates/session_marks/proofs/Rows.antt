@@ -1,32 +1,19 @@
 -- What each way out of the marks' tests answers, and the two ways that a call goes, refused or taken. Assumes nothing.
 use mathlib.Core.Path.{◌≡◌, sym, ap, ◌∙◌}
 use mathlib.Core.List.{List, [], ◌∷◌}
-use Prim.Native.Nat.{ℕ, ◌+◌, ◌≤◌, ◌<◌}
+use Prim.Native.Nat.{ℕ, ◌+◌, ◌≤◌}
 use lib.ListN.{length}
 use lib.Dec.{leb}
-use borrow.Author.Tests.{le-leb, lt-leb, leb-true, eq-eqb, ne_eqb}
-use Rattle.basics.specs.Tests.{unless, first_of}
-use Rattle.basics.proofs.Tests.{first_of-stop, first_of-one, first_of-zero, unless-zero}
+use borrow.Author.Tests.{leb-true, eq-eqb, ne_eqb}
+use Rattle.basics.specs.Tests.{unless}
+use Rattle.basics.proofs.Tests.{first_of-one, first_of-zero, unless-zero}
 use Rattle.session.specs.declared.Counters.{Counters}
-use Rattle.session.specs.declared.Called.{Called}
+use Rattle.session.specs.Replies.{Called}
 use Rattle.session.specs.Log.{Marks, Mark, marked}
 use Rattle.session.specs.Tests.{marks_length_test, mark_test, marks_number}
 use Rattle.session.specs.Marks.{noted, noting, marked_from, noted_by}
 
 -- ---- the tests
-
-module _ (marks more codes ids places lengths : ℕ) (l : lengths ≡ marks_length_test codes ids places) where
-  pub marks-lengths : (lengths ≡ 0 → ⊥) → lengths ≡ marks_number marks more codes ids places
-  unfolding marks_number
-  marks-lengths h = l ∙ sym (first_of-stop _ _ (λ z. h (l ∙ z)))
-
-  pub marks-full : lengths ≡ 0 → 512 < marks + more → 28 ≡ marks_number marks more codes ids places
-  unfolding marks_number mark_test unless first_of
-  marks-full z h = simp (sym l ∙ z, lt-leb (marks + more) 512 h)
-
-  pub marks-room : lengths ≡ 0 → marks + more ≤ 512 → 0 ≡ marks_number marks more codes ids places
-  unfolding marks_number mark_test unless first_of
-  marks-room z h = simp (sym l ∙ z, le-leb (marks + more) 512 h)
 
 -- what a call that marks and is not refused knows
 pub marks-fit : (marks more codes ids places : ℕ) → marks_number marks more codes ids places ≡ 0 → marks + more ≤ 512

@@ -7,6 +7,8 @@ ghost use Rattle.session.specs.Marks.{begun, ended, range_marked};
 ghost use Rattle.session_numbers.specs.Numbers.{counters_of};
 ghost use Rattle.session_marks_exported.specs.Left.{mark_left, noted_over};
 
+use session::MarksMut;
+
 // `begin_record`: its answer, and the counters and the marks after it.
 #[unsafe(no_mangle)]
 pub extern "C" fn session_begin(
@@ -19,10 +21,9 @@ pub extern "C" fn session_begin(
     ensures { mark_left result state.new (marks_of codes.new ids.new places.new) ≡ noted_over state.old (begun (counters_of state.old) id (marks_of codes.old ids.old places.old)) }
 {
     let counters = session_numbers::counters_of(state);
-    let opened = session_marks::begin_record(counters, id, codes, ids, places);
-    let after_begin = opened.counters;
-    session_numbers::keep(state, after_begin);
-    opened.answer
+    let mut marks = MarksMut { codes, ids, places };
+    let called = session_marks::begin_record(counters, id, &mut marks);
+    session_numbers::put_back(state, called)
 }
 
 // `end_record`: its answer, and the counters and the marks after it.
@@ -36,10 +37,9 @@ pub extern "C" fn session_end(
     ensures { mark_left result state.new (marks_of codes.new ids.new places.new) ≡ noted_over state.old (ended (counters_of state.old) (marks_of codes.old ids.old places.old)) }
 {
     let counters = session_numbers::counters_of(state);
-    let closed = session_marks::end_record(counters, codes, ids, places);
-    let after_end = closed.counters;
-    session_numbers::keep(state, after_end);
-    closed.answer
+    let mut marks = MarksMut { codes, ids, places };
+    let called = session_marks::end_record(counters, &mut marks);
+    session_numbers::put_back(state, called)
 }
 
 // `mark_operations`: its answer, and the counters and the marks after it.
@@ -56,8 +56,7 @@ pub extern "C" fn session_mark_operations(
     ensures { mark_left result state.new (marks_of codes.new ids.new places.new) ≡ noted_over state.old (range_marked (counters_of state.old) id from to (marks_of codes.old ids.old places.old)) }
 {
     let counters = session_numbers::counters_of(state);
-    let marked = session_marks::mark_operations(counters, id, from, to, codes, ids, places);
-    let after_marking = marked.counters;
-    session_numbers::keep(state, after_marking);
-    marked.answer
+    let mut marks = MarksMut { codes, ids, places };
+    let called = session_marks::mark_operations(counters, id, from, to, &mut marks);
+    session_numbers::put_back(state, called)
 }

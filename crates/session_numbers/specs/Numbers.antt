@@ -1,5 +1,5 @@
 -- The session's values as numbers. Definitions only; assumes nothing.
-use Rattle.std.specs.Prelude.{Bool, true, false, cond, List, ℕ, ◌^◌, eqb, ltb, get_or, set}
+use Rattle.std.specs.Prelude.{None as Nothing, Some as At, Bool, not, cond, List, ℕ, ◌^◌, eqb, ltb, get_or, set}
 use Rattle.basics.specs.Tests.{flag}
 use Rattle.storage.specs.Geometry.{geometry_of}
 use Rattle.device.specs.declared.OneWayBits.{OneWayBits}
@@ -11,11 +11,9 @@ use Rattle.inject.specs.declared.Interruption.TheVariants.{PowerLoss, Watchdog, 
 use Rattle.landing.specs.declared.Stop.{Stop}
 use Rattle.landing.specs.declared.Stop.TheVariants.{Running, PowerLost, CoreReset}
 use Rattle.landing.specs.Ending.{stop_number}
-use Rattle.session.specs.declared.Armed.{Armed}
-use Rattle.session.specs.declared.Armed.TheVariants.{Nothing, At}
 use Rattle.session.specs.declared.Told.{Told}
 use Rattle.session.specs.declared.Counters.{Counters}
-use Rattle.session.specs.Armed.{told_with}
+use Rattle.session.specs.Armed.{Armed, told_with}
 
 -- ---- what the start was told
 
@@ -51,7 +49,7 @@ stop_of number = cond (eqb number 21) PowerLost (cond (eqb number 22) CoreReset 
 
 -- 0 for no, any other number for yes
 abbrev pub yes : ℕ → Bool
-yes number = cond (eqb number 0) false true
+yes number = not (eqb number 0)
 
 -- a number that no u32 holds is taken for 0
 abbrev pub low : ℕ → ℕ

@@ -6,76 +6,67 @@
 #![tactic(auto)]
 
 ghost use Rattle.std.specs.Prelude.{◌≡◌, get_or};
-ghost use Rattle.session_numbers.specs.Numbers.{rule_of, progress_of, interruption_of, armed_of, told_of, stop_of, yes, low, counters_of, counters_in};
+ghost use Rattle.session.specs.Replies.{told_as};
+ghost use Rattle.session_numbers.specs.Numbers.{rule_of, progress_of, interruption_of, armed_of, told_of, stop_of, low, counters_of, counters_in};
 
-use basics::store_u64;
 use device::OneWayBits;
 use inject::{Injection, Interruption, Progress};
 use landing::Stop;
-use session::{Armed, Counters, Told};
+use session::{Called, Counters, Told};
 use storage::Geometry;
+
+// The number at a place, and `none` past the end.
+fn number_at<T: Copy>(numbers: &[T], at: usize, none: T) -> T
+    ensures { result ≡ get_or numbers.now at none }
+{
+    numbers.get(at).copied().unwrap_or(none)
+}
 
 // ---- what the start was told
 
-// The number at a place, 0 past the end.
-fn number_at(numbers: &[u32], at: usize) -> u32
-    ensures { result ≡ get_or numbers.now at 0 }
-{
-    if at < numbers.len() {
-        return numbers[at];
-    }
-    0
-}
-
-// The bit rule of a number.
+// The bit rule of a number. (No `From`: neither the number nor the rule is a type of this crate.)
 fn rule_of(rule: u32) -> OneWayBits
     ensures { result ≡ rule_of rule }
 {
-    if rule == 0 {
-        return OneWayBits::Absorbed;
+    match rule {
+        0 => OneWayBits::Absorbed,
+        _ => OneWayBits::Rejected,
     }
-    OneWayBits::Rejected
 }
 
-// The progress of a kind and a byte count.
+// The progress of a kind and a byte count. (No `From` here either, nor of the two below.)
 fn progress_of(kind: u32, count: u32) -> Progress
     ensures { result ≡ progress_of kind count }
 {
-    if kind == 0 {
-        return Progress::None;
+    match kind {
+        0 => Progress::None,
+        1 => Progress::Bytes(count),
+        _ => Progress::Whole,
     }
-    if kind == 1 {
-        return Progress::Bytes(count);
-    }
-    Progress::Whole
 }
 
 // The interruption of a number.
 fn interruption_of(cause: u32) -> Interruption
     ensures { result ≡ interruption_of cause }
 {
-    if cause == 0 {
-        return Interruption::PowerLoss;
+    match cause {
+        0 => Interruption::PowerLoss,
+        1 => Interruption::Watchdog,
+        _ => Interruption::Failure,
     }
-    if cause == 1 {
-        return Interruption::Watchdog;
-    }
-    Interruption::Failure
 }
 
 // What is armed.
-fn armed_of(armed: u32, op: u32, kind: u32, count: u32, cause: u32) -> Armed
+fn armed_of(armed: u32, op: u32, kind: u32, count: u32, cause: u32) -> Option<Injection>
     ensures { result ≡ armed_of armed op kind count cause }
 {
-    let progress = progress_of(kind, count);
-    let interruption = interruption_of(cause);
     if armed == 0 {
-        return Armed::Nothing;
+        return None;
     }
-    Armed::At(Injection {
+    Some(Injection {
         op: op as usize,
-        progress,
-        interruption,
+        progress: progress_of(kind, count),
+        interruption: interruption_of(cause),
     })
 }
 
@@ -84,98 +75,73 @@ pub fn told_of(told: &[u32]) -> Told
     ensures { result ≡ told_of told.now }
 {
     let geometry = Geometry {
-        capacity: number_at(told, 0),
-        erase_size: number_at(told, 1),
-        program_size: number_at(told, 2),
-        read_size: number_at(told, 3),
+        capacity: number_at(told, 0, 0),
+        erase_size: number_at(told, 1, 0),
+        program_size: number_at(told, 2, 0),
+        read_size: number_at(told, 3, 0),
     };
-    let bits = rule_of(number_at(told, 4));
+    let bits = rule_of(number_at(told, 4, 0));
     let armed = armed_of(
-        number_at(told, 5),
-        number_at(told, 6),
-        number_at(told, 7),
-        number_at(told, 8),
-        number_at(told, 9),
+        number_at(told, 5, 0),
+        number_at(told, 6, 0),
+        number_at(told, 7, 0),
+        number_at(told, 8, 0),
+        number_at(told, 9, 0),
     );
     session::told_with(geometry, bits, armed)
 }
 
 // ---- the counters
 
-// The number at a place, 0 past the end.
-fn long_at(longs: &[u64], at: usize) -> u64
-    ensures { result ≡ get_or longs.now at 0 }
-{
-    if at < longs.len() {
-        return longs[at];
-    }
-    0
-}
-
 // The stop of a number.
 fn stop_of(number: u64) -> Stop
     ensures { result ≡ stop_of number }
 {
-    if number == 21 {
-        return Stop::PowerLost;
+    match number {
+        21 => Stop::PowerLost,
+        22 => Stop::CoreReset,
+        _ => Stop::Running,
     }
-    if number == 22 {
-        return Stop::CoreReset;
-    }
-    Stop::Running
-}
-
-// Yes for any number but 0.
-fn yes_of(number: u64) -> bool
-    ensures { result ≡ yes number }
-{
-    if number == 0 {
-        return false;
-    }
-    true
 }
 
 // The number, or 0 where no u32 holds it.
 fn low_of(number: u64) -> u32
     ensures { result ≡ low number }
 {
-    if number < 0x1_0000_0000 {
-        return number as u32;
-    }
-    0
+    u32::try_from(number).unwrap_or(0)
 }
 
 // The counters of six numbers.
 pub fn counters_of(state: &[u64]) -> Counters
     ensures { result ≡ counters_of state.now }
 {
-    let operations = long_at(state, 0) as usize;
-    let marks = long_at(state, 1) as usize;
-    let stop = stop_of(long_at(state, 2));
-    let fired = yes_of(long_at(state, 3));
-    let place = low_of(long_at(state, 4));
-    let withheld = low_of(long_at(state, 5));
     Counters {
-        operations,
-        marks,
-        stop,
-        fired,
-        place,
-        withheld,
+        operations: number_at(state, 0, 0) as usize,
+        marks: number_at(state, 1, 0) as usize,
+        stop: stop_of(number_at(state, 2, 0)),
+        fired: number_at(state, 3, 0) != 0,
+        place: low_of(number_at(state, 4, 0)),
+        withheld: low_of(number_at(state, 5, 0)),
     }
 }
 
-// Puts the counters into the first six places.
+// Puts the counters into the first six places. An array of the six and a loop over it is no plainer: each line names its place.
 pub fn keep(state: &mut [u64], counters: Counters)
     ensures { state.new ≡ counters_in counters state.old }
 {
-    let stop = counters.stop;
-    let stopped = stop.number() as u64;
-    let fired = session::flag_of(counters.fired) as u64;
-    store_u64(state, 0, counters.operations as u64);
-    store_u64(state, 1, counters.marks as u64);
-    store_u64(state, 2, stopped);
-    store_u64(state, 3, fired);
-    store_u64(state, 4, counters.place as u64);
-    store_u64(state, 5, counters.withheld as u64);
+    let stopped = basics::number_in(counters.stop.refusal());
+    basics::store(state, 0, counters.operations as u64);
+    basics::store(state, 1, counters.marks as u64);
+    basics::store(state, 2, stopped as u64);
+    basics::store(state, 3, counters.fired as u64);
+    basics::store(state, 4, counters.place as u64);
+    basics::store(state, 5, counters.withheld as u64);
+}
+
+// Puts a reply's counters back, and gives document 01's number of what it answers, 0 where nothing is refused.
+pub fn put_back(state: &mut [u64], called: Called) -> u32
+    ensures { (result ≡ (told_as called).answer) × (state.new ≡ counters_in called.counters state.old) }
+{
+    keep(state, called.counters);
+    basics::number_in(called.answer)
 }

@@ -11,28 +11,31 @@ use borrow.Author.Tests.{le-leb}
 use borrow.Rule.Slice.PartMut.{put_mid}
 use Rattle.basics.specs.Parts.{part, overlaid}
 use Rattle.basics.proofs.Parts.{length_part}
-use Rattle.device.specs.declared.Postimage.{Postimage}
 use Rattle.device.specs.Media.{Applied, applied, programmed, postimage, any_changed}
 use Rattle.device.specs.Answers.{Copied, copied}
 use Rattle.device.proofs.Cells.{length-anded}
-use Rattle.landing.proofs.Bounds.{program-landed-le}
+use Rattle.std.specs.Prelude.{Result}
 use Rattle.session.specs.declared.Told.{Told}
-use Rattle.session.specs.declared.Armed.{Armed}
-use Rattle.session.specs.declared.Armed.TheVariants.{Nothing, At}
 use Rattle.session.specs.declared.Counters.{Counters}
-use Rattle.session.specs.declared.Plan.{Plan}
-use Rattle.session.specs.Armed.{armed_on, program_lands}
-use Rattle.session.specs.Written.{Landing}
+use Rattle.session.specs.Replies.{Plan}
+use Rattle.session.specs.Armed.{Armed, armed_on, program_lands, lands}
+use Rattle.session.specs.Written.{planned, planned_by, Landing}
+use Rattle.session.proofs.Writing.{lands-le as all-le, program-lands}
 use Rattle.session_program.specs.Program.{program_plan, program_landing}
 
 -- no more lands than the length
 pub lands-le : (a : Armed) (len unit : ℕ) → program_lands a len unit ≤ len
-lands-le Nothing len unit = le_refl len
-lands-le (At j) len unit = program-landed-le j len unit
+lands-le a len unit = rw (← program-lands a len unit) (all-le len 1 unit a)
 
-pub plan-le : (t : Told) (c : Counters) (offset len : ℕ) (p : Plan) → p ≡ program_plan t c offset len → p.landed ≤ len
-unfolding program_plan
-plan-le t c offset len p e = rw e (lands-le (armed_on t.armed c.operations) len t.geometry.program_size)
+module _ (t : Told) (c : Counters) (offset len : ℕ) (p : Plan)
+    (e : p ≡ planned_by c (armed_on t.armed c.operations) offset len (lands len 1 t.geometry.program_size)) where
+  -- the plan as the code makes it
+  pub plan-is : p ≡ program_plan t c offset len
+  unfolding program_plan
+  plan-is = e ∙ ap (planned c (armed_on t.armed c.operations) offset len) (program-lands (armed_on t.armed c.operations) len t.geometry.program_size)
+
+  pub plan-le : p.landed ≤ len
+  plan-le = rw e (all-le len 1 t.geometry.program_size (armed_on t.armed c.operations))
 
 -- a slice's end, as the code lends it
 pub lent-end : (xs : List ℕ) (start : ℕ) → take (length xs - start) (drop start xs) ≡ drop start xs
@@ -56,7 +59,7 @@ post-length media place rest h =
     rw (le-leb _ _ h) (length-anded (part media place (length rest)) rest (length_part media place (length rest) h) ∙ length_part media place (length rest) h)
 
 -- what `postimage_of` left of the copy's lent end, said of the copy
-copy-laid : (media copy rest end : List ℕ) (place : ℕ) (answer : Postimage) (room : place + length rest ≤ length media) → length copy ≡ length media
+copy-laid : (media copy rest end : List ℕ) (place : ℕ) (answer : Result ℕ ℕ) (room : place + length rest ≤ length media) → length copy ≡ length media
     → ◌≡◌ {A = Copied} (record { answer = answer; buffer = end }) (copied (drop place copy) (postimage media place rest))
     → put_mid place (length copy - place) copy end ≡ overlaid copy place (postimage media place rest)
 copy-laid media copy rest end place answer room same e =
@@ -70,7 +73,7 @@ module _ (offset landed : ℕ) (bytes media copy : List ℕ) (fits : landed ≤ 
   rest-room : offset + landed + length (drop landed bytes) ≤ length media
   rest-room = rw length-drop (omega arith)
 
-  pub landing : (end media' : List ℕ) (answer : Postimage) (changed : Bool)
+  pub landing : (end media' : List ℕ) (answer : Result ℕ ℕ) (changed : Bool)
       → ◌≡◌ {A = Copied} (record { answer = answer; buffer = end })
       (copied (take (length copy - (offset + landed)) (drop (offset + landed) copy)) (postimage media (offset + landed) (take (length bytes - landed) (drop landed bytes))))
       → ◌≡◌ {A = Applied} (record { media = media'; changed = changed }) (applied media (programmed media offset (take landed bytes)))

@@ -17,12 +17,11 @@ use Rattle.device.proofs.Programming.{programmed-outside}
 use Rattle.landing.specs.declared.Stop.TheVariants.{Running}
 use Rattle.landing.specs.Ending.{stop_number}
 use Rattle.session.specs.declared.Told.{Told}
-use Rattle.session.specs.declared.Armed.{Armed}
-use Rattle.session.specs.declared.Armed.TheVariants.{Nothing}
+use Rattle.std.specs.Prelude.{None as Nothing}
 use Rattle.session.specs.declared.Counters.{Counters}
 use Rattle.session.specs.Log.{Log}
 use Rattle.session.specs.Tests.{size_test, log_test, operation_test}
-use Rattle.session.specs.Armed.{armed_on, program_lands}
+use Rattle.session.specs.Armed.{Armed, armed_on, program_lands}
 use Rattle.session.specs.Written.{Written, written}
 use Rattle.session.proofs.Writing.{unarmed-plan, plan-counts, refuses, takes, either}
 use Rattle.session_program.specs.Program.{span_number, bit_test, program_number, program_number_of, program_plan, program_landing, program_taken, program_call}

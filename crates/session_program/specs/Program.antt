@@ -10,13 +10,12 @@ use Rattle.device.specs.Answers.{rejects}
 use Rattle.landing.specs.Ending.{stop_number}
 use Rattle.digest.specs.Fnv.{digest_of}
 use Rattle.session.specs.declared.Told.{Told}
-use Rattle.session.specs.declared.Armed.{Armed}
 use Rattle.session.specs.declared.Counters.{Counters}
 use Rattle.session.specs.declared.Entry.{Entry}
-use Rattle.session.specs.declared.Plan.{Plan}
+use Rattle.session.specs.Replies.{Plan}
 use Rattle.session.specs.Log.{Log}
 use Rattle.session.specs.Tests.{size_test, log_test, operation_test}
-use Rattle.session.specs.Armed.{armed_on, program_lands}
+use Rattle.session.specs.Armed.{Armed, armed_on, program_lands}
 use Rattle.session.specs.Written.{planned_by, Landing, Written, landed_so, written_by}
 
 -- the geometry: "the lowest number comes first, save that 6 for a buffer comes before 4 and 5", where "6 also for a buffer longer

@@ -7,7 +7,7 @@ use lib.ListN.{length, take, drop}
 use borrow.Author.Tests.{lt-leb}
 use Rattle.session.specs.declared.Told.{Told}
 use Rattle.session.specs.declared.Counters.{Counters}
-use Rattle.session.specs.declared.Called.{Called}
+use Rattle.session.specs.Replies.{Called}
 use Rattle.session.specs.Log.{Log, Marks}
 use Rattle.session.specs.Barrier.{ordered, barriered}
 use Rattle.session.specs.Marks.{noted, begun, ended, range_marked}

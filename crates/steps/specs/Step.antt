@@ -2,7 +2,7 @@
 use Rattle.std.specs.Prelude.{cond, List, ℕ, leb}
 use Rattle.session.specs.declared.Told.{Told}
 use Rattle.session.specs.declared.Counters.{Counters}
-use Rattle.session.specs.declared.Called.{Called}
+use Rattle.session.specs.Replies.{Called}
 use Rattle.session.specs.Log.{Log, Marks}
 use Rattle.script.specs.Calls.{Call}
 use Rattle.script.specs.Held.{call_from}

@@ -1,25 +1,18 @@
 -- The geometry check, test by test: what each way out of `Geometry::check` answers, and what a geometry that passes satisfies.
 -- Assumes nothing.
-use mathlib.Core.Path.{◌≡◌, refl, sym, ◌∙◌}
+use mathlib.Core.Path.{◌≡◌, refl, ◌∙◌}
 use mathlib.Core.Bool.{Bool, true, false, not, ◌||◌}
 use mathlib.Core.List.{[], ◌∷◌}
-use Prim.Native.Nat.{ℕ, zero, suc, ◌/◌, ◌%◌, ◌≤◌, ◌<◌}
-use native.Mathlib.Nat.{suc-ne-zero, pos_of_ne-zero}
-use native.Mathlib.Omega.{arith}
+use Prim.Native.Nat.{ℕ, ◌%◌, ◌≤◌, ◌<◌}
+use native.Mathlib.Nat.{pos_of_ne-zero}
 use lib.Dec.{eqb, ltb}
 use lib.Count.{ones}
 use borrow.Author.Tests.{eqb-true, eqb-false, ltb-false, not-false, eq-eqb, ne_eqb}
 use Rattle.basics.specs.Tests.{refuse_if, first_of}
 use Rattle.basics.proofs.Tests.{refuse-zero, first_of-zero}
 use Rattle.storage.specs.declared.Geometry.{Geometry}
-use Rattle.storage.specs.declared.GeometryError.{GeometryError}
-use Rattle.storage.specs.declared.Validated.{Validated}
-use Rattle.storage.specs.declared.Validated.TheVariants.{Legal, Illegal}
 use Rattle.storage.specs.Geometry.{any_zero, one_bit, no_power_of_two, unnested, geometry_test}
-use Rattle.storage.specs.declared.NewGeometry.TheVariants.{Described, NotDescribed}
-use Rattle.storage.specs.declared.EraseBlocks.TheVariants.{Blocks, NoBlocks}
 use Rattle.storage.specs.Span.{span_test}
-use Rattle.storage.specs.Answers.{error_of, answered, described, blocks_of}
 
 -- ---- each way out of the check
 
@@ -40,40 +33,10 @@ module _ (g : Geometry) where
   unfolding geometry_test first_of refuse_if
   accepted z p n = simp (z, p, n)
 
--- ---- an answer and its number
-
-pub answered-legal : (n : ℕ) → answered n ≡ Legal → n ≡ 0
-answered-legal zero e = refl
-answered-legal (suc n) e = absurd (let z : ◌≡◌ {A = ℕ} 0 1 = cc (rw (ne_eqb (suc n) 0 (suc-ne-zero n)) at e) in omega arith)
-
-pub answered-illegal : (n : ℕ) (error : GeometryError) → answered n ≡ Illegal error → (n ≡ 0 → ⊥) × (error_of n ≡ error)
-answered-illegal zero error e = absurd (let z : ◌≡◌ {A = ℕ} 0 1 = cc in omega arith)
-answered-illegal (suc n) error e = (suc-ne-zero n, let q : Illegal (error_of (suc n)) ≡ Illegal error = rw (ne_eqb (suc n) 0 (suc-ne-zero n)) at e in cc)
-
--- what a function answers once its check of the geometry has
-module _ (g : Geometry) (checked : Validated) (told : checked ≡ answered (geometry_test g)) where
-  pub passes : checked ≡ Legal → geometry_test g ≡ 0
-  passes e = answered-legal (geometry_test g) (sym told ∙ e)
-
-  pub described-legal : checked ≡ Legal → Described g ≡ described g
-  described-legal e = simp (eq-eqb (geometry_test g) 0 (passes e))
-
-  pub blocks-legal : checked ≡ Legal → Blocks (g.capacity / g.erase_size) ≡ blocks_of g
-  blocks-legal e = simp (eq-eqb (geometry_test g) 0 (passes e))
-
-  module _ (error : GeometryError) (e : checked ≡ Illegal error) where
-    pub fails : (geometry_test g ≡ 0 → ⊥) × (error_of (geometry_test g) ≡ error)
-    fails = answered-illegal (geometry_test g) error (sym told ∙ e)
-
-    pub described-illegal : NotDescribed error ≡ described g
-    described-illegal = simp (ne_eqb (geometry_test g) 0 fails.0, fails.1)
-
-    pub blocks-illegal : NoBlocks error ≡ blocks_of g
-    blocks-illegal = simp (ne_eqb (geometry_test g) 0 fails.0, fails.1)
-
-    pub span-illegal : (unit offset len : ℕ) → Illegal error ≡ answered (span_test g unit offset len)
-    unfolding span_test first_of
-    span-illegal unit offset len = simp (ne_eqb (geometry_test g) 0 fails.0, fails.1)
+-- a geometry that is refused has its number told, whatever else is asked
+pub span-refused : (g : Geometry) (unit offset len n : ℕ) → (n ≡ 0 → ⊥) → n ≡ geometry_test g → n ≡ span_test g unit offset len
+unfolding span_test first_of
+span-refused g unit offset len n h told = told ∙ simp (ne_eqb (geometry_test g) 0 (λ z. h (told ∙ z)))
 
 -- ---- what a geometry that passes satisfies
 

@@ -1,19 +1,16 @@
 -- The paper's numbers and the enum's cases are the same thing told twice.
 --     numbered, error-number            each number from 1 to 6 has its error, and each error its number
 --     geometry-most, span-most          no test gives more than its highest number
---     geometry-refusal, span-refusal    what `refusal` gives of an answer is its test's number
+--     one_number                        no two errors share a number, so an answer is told by its number
 -- Assumes nothing.
-use mathlib.Core.Path.{◌≡◌, refl, ap, ◌∙◌}
+use mathlib.Core.Path.{◌≡◌, refl, sym, ap, ◌∙◌}
 use Prim.Native.Nat.{ℕ, zero, suc, ◌≤◌, ◌<◌}
-use native.Mathlib.Nat.{suc-ne-zero}
 use native.Mathlib.Omega.{arith}
-use borrow.Author.Tests.{ne_eqb}
 use Rattle.basics.proofs.Tests.{unless-le, refuse-le, first_of-le, first_of-none}
 use Rattle.storage.specs.declared.Geometry.{Geometry}
-use Rattle.storage.specs.declared.Validated.{Validated}
 use Rattle.storage.specs.Geometry.{geometry_test}
 use Rattle.storage.specs.Span.{span_test}
-use Rattle.storage.specs.Answers.{number_of, number_of_validated, error_of, answered}
+use Rattle.storage.specs.Answers.{number_of, error_of}
 use Rattle.storage.specs.declared.GeometryError.{GeometryError}
 use Rattle.storage.specs.declared.GeometryError.TheVariants.{ZeroUnit, UnitIsNotAPowerOfTwo, UnitsDoNotNest, MisalignedOffset, MisalignedLength, OutOfBounds}
 
@@ -37,6 +34,10 @@ error-number MisalignedOffset = refl
 error-number MisalignedLength = refl
 error-number OutOfBounds = refl
 
+-- no two errors share a number
+pub one_number : (e d : GeometryError) → number_of e ≡ number_of d → e ≡ d
+one_number e d h = sym (error-number e) ∙ ap error_of h ∙ error-number d
+
 -- ---- no test gives more than its highest number
 
 pub geometry-most : (g : Geometry) → geometry_test g ≤ 3
@@ -55,18 +56,3 @@ span-most g unit offset len =
     (first_of-le _ _ 6 (unless-le _ 5 6 (omega arith))
     (first_of-le _ _ 6 (unless-le _ 6 6 (omega arith))
     (first_of-none 6))))
-
--- ---- from an answer back to the number
-
-pub refusal-number : (n : ℕ) → n ≤ 6 → number_of_validated (answered n) ≡ n
-refusal-number zero h = refl
-refusal-number (suc n) h = rw (ne_eqb (suc n) 0 (suc-ne-zero n)) (numbered (suc n) (omega arith) h)
-
-pub geometry-refusal : (g : Geometry) (checked : Validated) (r : ℕ) → checked ≡ answered (geometry_test g) → r ≡ number_of_validated checked → r ≡ geometry_test g
-geometry-refusal g checked r told number =
-    number ∙ ap number_of_validated told ∙ refusal-number (geometry_test g) (omega (arith, geometry-most g))
-
-pub span-refusal : (g : Geometry) (unit offset len : ℕ) (checked : Validated) (r : ℕ) → checked ≡ answered (span_test g unit offset len)
-    → r ≡ number_of_validated checked → r ≡ span_test g unit offset len
-span-refusal g unit offset len checked r told number =
-    number ∙ ap number_of_validated told ∙ refusal-number (span_test g unit offset len) (span-most g unit offset len)

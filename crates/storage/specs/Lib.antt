@@ -2,3 +2,4 @@
 pub mod Geometry
 pub mod Span
 pub mod Answers
+pub mod Nonzero

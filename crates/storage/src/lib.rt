@@ -7,10 +7,14 @@
 ghost use Rattle.std.specs.Prelude.{◌≡◌, true, ◌%◌, eqb};
 ghost use Rattle.storage.specs.Geometry.{one_bit, geometry_test, geometry_of};
 ghost use Rattle.storage.specs.Span.{span_test, read_test, program_test, erase_test};
-ghost use Rattle.storage.specs.Answers.{number_of, number_of_validated, answered, described, blocks_of};
+ghost use Rattle.basics.specs.Replies.{number_in, numbered};
+ghost use Rattle.storage.specs.Answers.{number_of, described, blocks_of};
+ghost use Rattle.storage.specs.Nonzero.{error-nonzero};
+
+use basics::Numbered;
 
 // The four units that a storage device is described by.
-#[derive(Clone, Copy)]
+#[derive(Clone, Copy, Debug, PartialEq, Eq)]
 pub struct Geometry {
     // Total addressable bytes.
     pub capacity: u32,
@@ -23,7 +27,7 @@ pub struct Geometry {
 }
 
 // A geometry that describes no device, or a span that a geometry forbids.
-#[derive(Clone, Copy)]
+#[derive(Clone, Copy, Debug, PartialEq, Eq)]
 pub enum GeometryError {
     // A capacity or a unit was zero.
     ZeroUnit,
@@ -39,27 +43,6 @@ pub enum GeometryError {
     OutOfBounds,
 }
 
-// What `Geometry::new` answers.
-#[derive(Clone, Copy)]
-pub enum NewGeometry {
-    Described(Geometry),
-    NotDescribed(GeometryError),
-}
-
-// What a check of a geometry or of a span answers.
-#[derive(Clone, Copy)]
-pub enum Validated {
-    Legal,
-    Illegal(GeometryError),
-}
-
-// What `erase_blocks` answers.
-#[derive(Clone, Copy)]
-pub enum EraseBlocks {
-    Blocks(u32),
-    NoBlocks(GeometryError),
-}
-
 // Whether a value is a multiple of a unit. A unit that is a power of two has its multiples told by a mask.
 fn is_multiple(value: u32, unit: u32) -> bool
     requires { one_bit unit ≡ true }
@@ -72,8 +55,13 @@ fn is_multiple(value: u32, unit: u32) -> bool
 impl Geometry {
     // Describes a device, or refuses to: 1 if any of the four is zero, 2 if the erase, program or read unit is not a
     // power of two, 3 if the capacity is not whole erase blocks or the units are not ordered erase, program, read.
-    pub fn new(capacity: u32, erase_size: u32, program_size: u32, read_size: u32) -> NewGeometry
-        ensures { result ≡ described (geometry_of capacity erase_size program_size read_size) }
+    pub fn new(
+        capacity: u32,
+        erase_size: u32,
+        program_size: u32,
+        read_size: u32,
+    ) -> Result<Geometry, GeometryError>
+        ensures { numbered number_of result ≡ described (geometry_of capacity erase_size program_size read_size) }
     {
         let geometry = Geometry {
             capacity,
@@ -81,67 +69,61 @@ impl Geometry {
             program_size,
             read_size,
         };
-        let checked = geometry.check();
-        match checked {
-            Validated::Legal => NewGeometry::Described(geometry),
-            Validated::Illegal(error) => NewGeometry::NotDescribed(error),
-        }
+        geometry.check()?;
+        Ok(geometry)
     }
 
     // Whether the four units describe a device. A capacity need not be a power of two: three erase blocks are an
     // ordinary device.
-    pub fn check(self) -> Validated
-        ensures { result ≡ answered (geometry_test self) }
+    pub fn check(self) -> Result<(), GeometryError>
+        ensures { number_in number_of result ≡ geometry_test self }
     {
         let capacity = self.capacity;
         let erase = self.erase_size;
         let program = self.program_size;
         let read = self.read_size;
         if (capacity == 0) | (erase == 0) | (program == 0) | (read == 0) {
-            return Validated::Illegal(GeometryError::ZeroUnit);
+            return Err(GeometryError::ZeroUnit);
         }
         let erase_ones = u32::count_ones(erase);
         let program_ones = u32::count_ones(program);
         let read_ones = u32::count_ones(read);
         if (erase_ones != 1) | (program_ones != 1) | (read_ones != 1) {
-            return Validated::Illegal(GeometryError::UnitIsNotAPowerOfTwo);
+            return Err(GeometryError::UnitIsNotAPowerOfTwo);
         }
         let whole_blocks = is_multiple(capacity, erase);
         if !whole_blocks | (erase < program) | (program < read) {
-            return Validated::Illegal(GeometryError::UnitsDoNotNest);
+            return Err(GeometryError::UnitsDoNotNest);
         }
-        Validated::Legal
+        Ok(())
     }
 
     // How many erase blocks the device has: at least one.
-    pub fn erase_blocks(self) -> EraseBlocks
-        ensures { result ≡ blocks_of self }
+    pub fn erase_blocks(self) -> Result<u32, GeometryError>
+        ensures { numbered number_of result ≡ blocks_of self }
     {
-        let checked = self.check();
-        match checked {
-            Validated::Legal => EraseBlocks::Blocks(self.capacity / self.erase_size),
-            Validated::Illegal(error) => EraseBlocks::NoBlocks(error),
-        }
+        self.check()?;
+        Ok(self.capacity / self.erase_size)
     }
 
     // Whether `offset..offset + len` is a legal read: 4 or 5 if either is not a multiple of the read unit, 6 if the span
     // reaches past the capacity or its end overflows.
-    pub fn validate_read(self, offset: u32, len: u32) -> Validated
-        ensures { result ≡ answered (read_test self offset len) }
+    pub fn validate_read(self, offset: u32, len: u32) -> Result<(), GeometryError>
+        ensures { number_in number_of result ≡ read_test self offset len }
     {
         self.validate(offset, len, self.read_size)
     }
 
     // Whether `offset..offset + len` is a legal program: as `validate_read`, against the program unit.
-    pub fn validate_program(self, offset: u32, len: u32) -> Validated
-        ensures { result ≡ answered (program_test self offset len) }
+    pub fn validate_program(self, offset: u32, len: u32) -> Result<(), GeometryError>
+        ensures { number_in number_of result ≡ program_test self offset len }
     {
         self.validate(offset, len, self.program_size)
     }
 
     // Whether `offset..offset + len` is a legal erase: as `validate_read`, against the erase unit.
-    pub fn validate_erase(self, offset: u32, len: u32) -> Validated
-        ensures { result ≡ answered (erase_test self offset len) }
+    pub fn validate_erase(self, offset: u32, len: u32) -> Result<(), GeometryError>
+        ensures { number_in number_of result ≡ erase_test self offset len }
     {
         self.validate(offset, len, self.erase_size)
     }
@@ -149,35 +131,34 @@ impl Geometry {
     // The one arithmetic that the three validators share. Alignment comes before bounds: a misaligned offset is a
     // caller's fault, an end past the device may be a legitimate caller at the end of a bank. A zero length is legal at
     // any aligned offset up to and including the capacity.
-    fn validate(self, offset: u32, len: u32, unit: u32) -> Validated
+    fn validate(self, offset: u32, len: u32, unit: u32) -> Result<(), GeometryError>
         requires { geometry_test self ≡ 0 → one_bit unit ≡ true }
-        ensures { result ≡ answered (span_test self unit offset len) }
+        ensures { number_in number_of result ≡ span_test self unit offset len }
     {
-        let checked = self.check();
-        if let Validated::Illegal(error) = checked {
-            return Validated::Illegal(error);
-        }
+        self.check()?;
         if !is_multiple(offset, unit) {
-            return Validated::Illegal(GeometryError::MisalignedOffset);
+            return Err(GeometryError::MisalignedOffset);
         }
         if !is_multiple(len, unit) {
-            return Validated::Illegal(GeometryError::MisalignedLength);
+            return Err(GeometryError::MisalignedLength);
         }
         // A u64 holds the end of every span of u32, so nothing wraps.
         let end = offset as u64 + len as u64;
         if end <= self.capacity as u64 {
-            Validated::Legal
+            Ok(())
         } else {
-            Validated::Illegal(GeometryError::OutOfBounds)
+            Err(GeometryError::OutOfBounds)
         }
     }
 }
 
-impl GeometryError {
+impl Numbered for GeometryError {
+    ghost number = { number_of };
+
+    ghost nonzero = { error-nonzero };
+
     // Document 01's number of the error, 1 to 6.
-    pub fn number(self) -> u32
-        ensures { result ≡ number_of self }
-    {
+    fn number(self) -> u32 {
         match self {
             GeometryError::ZeroUnit => 1,
             GeometryError::UnitIsNotAPowerOfTwo => 2,
@@ -185,18 +166,6 @@ impl GeometryError {
             GeometryError::MisalignedOffset => 4,
             GeometryError::MisalignedLength => 5,
             GeometryError::OutOfBounds => 6,
-        }
-    }
-}
-
-impl Validated {
-    // 0 where the check passed, else the error's number.
-    pub fn refusal(self) -> u32
-        ensures { result ≡ number_of_validated self }
-    {
-        match self {
-            Validated::Legal => 0,
-            Validated::Illegal(error) => error.number(),
         }
     }
 }

@@ -4,7 +4,7 @@ use Rattle.storage.specs.declared.Geometry.{Geometry}
 use Rattle.storage.specs.Geometry.{geometry_test}
 
 -- the four units in the first four places
-unfoldable pub units_in : Geometry → List ℕ → List ℕ
+abbrev pub units_in : Geometry → List ℕ → List ℕ
 units_in g kept = set (set (set (set kept 0 g.capacity) 1 g.erase_size) 2 g.program_size) 3 g.read_size
 
 -- a geometry that is not refused has its units kept

@@ -9,17 +9,29 @@ ghost use Rattle.storage.specs.Geometry.{geometry_test, geometry_of};
 ghost use Rattle.storage.specs.Span.{read_test, program_test, erase_test};
 ghost use Rattle.storage_exported.specs.Storage.{units_in, kept_of, blocks_over};
 
-use basics::store_u32;
-use storage::{EraseBlocks, Geometry, NewGeometry};
+use basics::{Numbered, number_in, store};
+use storage::Geometry;
+
+// The geometry of four units.
+fn units(capacity: u32, erase: u32, program: u32, read: u32) -> Geometry
+    ensures { result ≡ geometry_of capacity erase program read }
+{
+    Geometry {
+        capacity,
+        erase_size: erase,
+        program_size: program,
+        read_size: read,
+    }
+}
 
 // Puts the four units into the first four places.
 fn keep(kept: &mut [u32], geometry: Geometry)
     ensures { kept.new ≡ units_in geometry kept.old }
 {
-    store_u32(kept, 0, geometry.capacity);
-    store_u32(kept, 1, geometry.erase_size);
-    store_u32(kept, 2, geometry.program_size);
-    store_u32(kept, 3, geometry.read_size);
+    store(kept, 0, geometry.capacity);
+    store(kept, 1, geometry.erase_size);
+    store(kept, 2, geometry.program_size);
+    store(kept, 3, geometry.read_size);
 }
 
 // `Geometry::new`: the number that refuses the four units. The units of the geometry that it describes are put into the
@@ -34,13 +46,12 @@ pub extern "C" fn storage_new(
 ) -> u32
     ensures { (result ≡ geometry_test (geometry_of capacity erase program read)) × (kept.new ≡ kept_of (geometry_of capacity erase program read) kept.old) }
 {
-    let made = Geometry::new(capacity, erase, program, read);
-    match made {
-        NewGeometry::Described(geometry) => {
+    match Geometry::new(capacity, erase, program, read) {
+        Ok(geometry) => {
             keep(kept, geometry);
             0
         }
-        NewGeometry::NotDescribed(error) => error.number(),
+        Err(error) => error.number(),
     }
 }
 
@@ -56,19 +67,13 @@ pub extern "C" fn storage_erase_blocks(
 ) -> u32
     ensures { (result ≡ geometry_test (geometry_of capacity erase program read)) × (blocks.new ≡ blocks_over (geometry_of capacity erase program read) blocks.old) }
 {
-    let geometry = Geometry {
-        capacity,
-        erase_size: erase,
-        program_size: program,
-        read_size: read,
-    };
-    let counted = geometry.erase_blocks();
-    match counted {
-        EraseBlocks::Blocks(count) => {
+    let geometry = units(capacity, erase, program, read);
+    match geometry.erase_blocks() {
+        Ok(count) => {
             *blocks = count;
             0
         }
-        EraseBlocks::NoBlocks(error) => error.number(),
+        Err(error) => error.number(),
     }
 }
 
@@ -84,14 +89,8 @@ pub extern "C" fn storage_validate_read(
 ) -> u32
     ensures { result ≡ read_test (geometry_of capacity erase program read) offset len }
 {
-    let geometry = Geometry {
-        capacity,
-        erase_size: erase,
-        program_size: program,
-        read_size: read,
-    };
-    let checked = geometry.validate_read(offset, len);
-    checked.refusal()
+    let geometry = units(capacity, erase, program, read);
+    number_in(geometry.validate_read(offset, len))
 }
 
 // `Geometry::validate_program`: the number that refuses the units or the span.
@@ -106,14 +105,8 @@ pub extern "C" fn storage_validate_program(
 ) -> u32
     ensures { result ≡ program_test (geometry_of capacity erase program read) offset len }
 {
-    let geometry = Geometry {
-        capacity,
-        erase_size: erase,
-        program_size: program,
-        read_size: read,
-    };
-    let checked = geometry.validate_program(offset, len);
-    checked.refusal()
+    let geometry = units(capacity, erase, program, read);
+    number_in(geometry.validate_program(offset, len))
 }
 
 // `Geometry::validate_erase`: the number that refuses the units or the span.
@@ -128,12 +121,6 @@ pub extern "C" fn storage_validate_erase(
 ) -> u32
     ensures { result ≡ erase_test (geometry_of capacity erase program read) offset len }
 {
-    let geometry = Geometry {
-        capacity,
-        erase_size: erase,
-        program_size: program,
-        read_size: read,
-    };
-    let checked = geometry.validate_erase(offset, len);
-    checked.refusal()
+    let geometry = units(capacity, erase, program, read);
+    number_in(geometry.validate_erase(offset, len))
 }

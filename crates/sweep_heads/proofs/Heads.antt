@@ -4,7 +4,7 @@ use mathlib.Core.Path.{◌≡◌, ap, ◌∙◌}
 use mathlib.Core.List.{[], ◌∷◌}
 use Prim.Native.Nat.{ℕ}
 use Rattle.landing.specs.declared.Stop.{Stop}
-use Rattle.session.specs.declared.Armed.{Armed}
+use Rattle.session.specs.Armed.{Armed}
 use Rattle.text.specs.Numbers.{decimal_of}
 use Rattle.pieces.specs.Pieces.{letter, Cursor, after, after_all, tabbed}
 use Rattle.pieces.proofs.Cursors.{joint}

@@ -11,8 +11,8 @@ use lib.ListN.{length, length-append}
 use Rattle.inject.specs.declared.Injection.{Injection}
 use Rattle.landing.specs.declared.Stop.{Stop}
 use Rattle.landing.specs.declared.Stop.TheVariants.{Running, PowerLost, CoreReset}
-use Rattle.session.specs.declared.Armed.{Armed}
-use Rattle.session.specs.declared.Armed.TheVariants.{Nothing, At}
+use Rattle.session.specs.Armed.{Armed}
+use Rattle.std.specs.Prelude.{None as Nothing, Some as At}
 use Rattle.text.specs.Numbers.{decimal_of}
 use Rattle.text.specs.Printing.{Places}
 use Rattle.pieces.specs.Pieces.{letter, tabbed}

@@ -2,7 +2,7 @@
 -- a text is. Definitions only; assumes nothing.
 use Rattle.std.specs.Prelude.{◌≡◌, List, [], ◌∷◌, ◌++◌, ℕ, ◌≤◌, length}
 use Rattle.landing.specs.declared.Stop.{Stop}
-use Rattle.session.specs.declared.Armed.{Armed}
+use Rattle.session.specs.Armed.{Armed}
 use Rattle.text.specs.Numbers.{decimal_of}
 use Rattle.pieces.specs.Pieces.{tabbed}
 use Rattle.lines.specs.Lines.{point_fields, stop_field}

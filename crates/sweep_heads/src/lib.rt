@@ -5,14 +5,14 @@
 
 ghost use Rattle.std.specs.Prelude.{◌≡◌};
 ghost use mathlib.Core.List.{[], ◌∷◌, flatten};
-ghost use Rattle.pieces.specs.Pieces.{letter, cursor, after_all, tabbed};
+ghost use Rattle.pieces.specs.Pieces.{letter, after_all, tabbed};
+ghost use Rattle.pieces.specs.Cursors.{cursor_in, SameOut};
 ghost use Rattle.lines.specs.Lines.{letter_of, progress_field, point_fields, stop_field};
 ghost use Rattle.sweep_heads.specs.Heads.{head_pieces, Few};
 
-use inject::{Interruption, Progress};
+use inject::{Injection, Interruption, Progress};
 use landing::Stop;
-use pieces::{put_field, put_letter, put_number};
-use session::Armed;
+use pieces::Cursor;
 
 fn letter_of(interruption: Interruption) -> u8
     ensures { result ≡ letter_of interruption }
@@ -24,13 +24,14 @@ fn letter_of(interruption: Interruption) -> u8
     }
 }
 
-fn put_progress(progress: Progress, out: &mut [u8], at: usize) -> usize
-    ensures { cursor result out.new ≡ after_all (letter 9 ∷ progress_field progress ∷ []) (cursor at out.old) }
+fn put_progress(progress: Progress, to: &mut Cursor<'_>)
+    ensures same { SameOut to.old to.new }
+    ensures put { cursor_in to.new ≡ after_all (letter 9 ∷ progress_field progress ∷ []) (cursor_in to.old) }
 {
     match progress {
-        Progress::None => put_letter(b'n', out, at),
-        Progress::Bytes(count) => put_field(count as u64, out, at),
-        Progress::Whole => put_letter(b'a', out, at),
+        Progress::None => to.put_letter(b'n'),
+        Progress::Bytes(count) => to.put_field(count as u64),
+        Progress::Whole => to.put_letter(b'a'),
     }
 }
 
@@ -38,43 +39,37 @@ fn progress_size(progress: Progress) -> usize
     ensures { Few 30 (flatten (tabbed (progress_field progress ∷ []))) result }
 {
     match progress {
-        Progress::None => 2,
+        Progress::None | Progress::Whole => 2,
         Progress::Bytes(count) => 1 + text::places(count as u64),
-        Progress::Whole => 2,
     }
 }
 
 // Kind, index and progress, or three times `-`.
-fn put_point(armed: Armed, out: &mut [u8], at: usize) -> usize
-    ensures { cursor result out.new ≡ after_all (tabbed (point_fields armed)) (cursor at out.old) }
+fn put_point(armed: Option<Injection>, to: &mut Cursor<'_>)
+    ensures same { SameOut to.old to.new }
+    ensures put { cursor_in to.new ≡ after_all (tabbed (point_fields armed)) (cursor_in to.old) }
 {
     match armed {
-        Armed::Nothing => {
-            let kind = put_letter(b'-', out, at);
-            let index = put_letter(b'-', out, kind);
-            put_letter(b'-', out, index)
+        None => {
+            to.put_letter(b'-');
+            to.put_letter(b'-');
+            to.put_letter(b'-');
         }
-        Armed::At(injection) => {
-            let interruption = injection.interruption;
-            let progress = injection.progress;
-            let letter = letter_of(interruption);
-            let kind = put_letter(letter, out, at);
-            let index = put_field(injection.op as u64, out, kind);
-            put_progress(progress, out, index)
+        Some(injection) => {
+            to.put_letter(letter_of(injection.interruption));
+            to.put_field(injection.op as u64);
+            put_progress(injection.progress, to);
         }
     }
 }
 
-fn point_size(armed: Armed) -> usize
+fn point_size(armed: Option<Injection>) -> usize
     ensures { Few 64 (flatten (tabbed (point_fields armed))) result }
 {
     match armed {
-        Armed::Nothing => 6,
-        Armed::At(injection) => {
-            let progress = injection.progress;
-            let index = text::places(injection.op as u64);
-            let behind = progress_size(progress);
-            3 + index + behind
+        None => 6,
+        Some(injection) => {
+            3 + text::places(injection.op as u64) + progress_size(injection.progress)
         }
     }
 }
@@ -92,27 +87,23 @@ fn stop_letter(stop: Stop) -> u8
 // What stands before the entries: place, kind, index, progress, stop and operations.
 pub fn put_head(
     place: u64,
-    armed: Armed,
+    armed: Option<Injection>,
     stop: Stop,
     operations: usize,
-    out: &mut [u8],
-    at: usize,
-) -> usize
-    ensures { cursor result out.new ≡ after_all (head_pieces place armed stop operations) (cursor at out.old) }
+    to: &mut Cursor<'_>,
+)
+    ensures same { SameOut to.old to.new }
+    ensures put { cursor_in to.new ≡ after_all (head_pieces place armed stop operations) (cursor_in to.old) }
 {
-    let letter = stop_letter(stop);
-    let placed = put_number(place, out, at);
-    let pointed = put_point(armed, out, placed);
-    let stopped = put_letter(letter, out, pointed);
-    put_field(operations as u64, out, stopped)
+    to.put_number(place);
+    put_point(armed, to);
+    to.put_letter(stop_letter(stop));
+    to.put_field(operations as u64);
 }
 
 // How many bytes that is: 110 at the most.
-pub fn head_size(place: u64, armed: Armed, stop: Stop, operations: usize) -> usize
+pub fn head_size(place: u64, armed: Option<Injection>, stop: Stop, operations: usize) -> usize
     ensures { Few 110 (flatten (head_pieces place armed stop operations)) result }
 {
-    let placed = text::places(place);
-    let pointed = point_size(armed);
-    let counted = text::places(operations as u64);
-    placed + pointed + 3 + counted
+    text::places(place) + point_size(armed) + 3 + text::places(operations as u64)
 }

@@ -7,16 +7,18 @@
 --     rows-size, rows-size-end         what a row adds to the length of what is left
 -- Assumes nothing.
 use mathlib.Core.Path.{◌≡◌, refl, sym, ap, ◌∙◌}
+use mathlib.Core.Logic.{◌⊎◌, inl, inr}
 use mathlib.Core.Bool.{Bool, true, false, not, ◌&&◌}
 use mathlib.Core.List.{List, [], ◌∷◌, ◌++◌, flatten}
-use Prim.Native.Nat.{ℕ, ◌+◌, ◌≤◌, ◌<◌}
+use Prim.Native.Nat.{ℕ, ◌+◌}
+use native.Mathlib.Nat.{suc-ne-zero}
 use native.Mathlib.Omega.{arith}
-use lib.ListN.{length, get_or, drop, length-append}
+use lib.ListN.{length, length-append}
 use lib.Dec.{eqb}
 use borrow.Author.Tests.{eq-eqb, ne_eqb}
 use Rattle.model.specs.Columns.{state_of, entry_of, ledger_of}
-use Rattle.model.specs.Ledger.{Entry, is_torn}
-use Rattle.model.proofs.Rows.{torn-row, row_step, row-end}
+use Rattle.model.specs.Ledger.{is_torn}
+use Rattle.model.proofs.Rows.{torn-row}
 use Rattle.text.specs.Numbers.{decimal_of}
 use Rattle.text.specs.Printing.{Places}
 use Rattle.pieces.specs.Pieces.{letter, Cursor, after, after_all}
@@ -76,31 +78,43 @@ module _ (id s t n : ℕ) (w : Places id n) (m : Bool) (q : m ≡ is_torn (entry
 
 -- ---- the rows of a ledger
 
-module _ (is ss ts : List ℕ) (p : length ss ≡ length is) (q : length ts ≡ length is) (i : ℕ) where
-  module _ (whole : Cursor) (a : Cursor) (e : whole ≡ after_all (ledger_pieces (drop i (ledger_of is ss ts))) a) where
-    pub rows-put : (b : Cursor) → i < length is → b ≡ after_all (entry_pieces (entry_of (get_or is i 0) (get_or ss i 0) (get_or ts i 0))) a
-        → whole ≡ after_all (ledger_pieces (drop (i + 1) (ledger_of is ss ts))) b
-    unfolding ledger_pieces
-    rows-put b h g =
-        e ∙ row_step (λ (l : List Entry). after_all (ledger_pieces l) a) is ss ts i p q h
-        ∙ sym (joint (entry_pieces (entry_of (get_or is i 0) (get_or ss i 0) (get_or ts i 0))) (ledger_pieces (drop (i + 1) (ledger_of is ss ts))) a b
-        (after_all (ledger_pieces (drop (i + 1) (ledger_of is ss ts))) b) g refl)
+-- the next row is i, s and t
+module _ (is ss ts : List ℕ) (i s t : ℕ) (is' ss' ts' : List ℕ) (e : is ≡ i ∷ is') (f : ss ≡ s ∷ ss') (h : ts ≡ t ∷ ts') where
+  rows-first : ledger_pieces (ledger_of is ss ts) ≡ entry_pieces (entry_of i s t) ++ ledger_pieces (ledger_of is' ss' ts')
+  unfolding ledger_pieces ledger_of
+  rows-first = rw (e, f, h) refl
 
-    pub rows-put-end : length is ≤ i → a ≡ whole
-    unfolding ledger_pieces after_all
-    rows-put-end h = sym (e ∙ row-end (λ (l : List Entry). after_all (ledger_pieces l) a) is ss ts i p q h)
+  pub rows-put : (whole a b : Cursor) → whole ≡ after_all (ledger_pieces (ledger_of is ss ts)) a → b ≡ after_all (entry_pieces (entry_of i s t)) a
+      → whole ≡ after_all (ledger_pieces (ledger_of is' ss' ts')) b
+  rows-put whole a b w g =
+      let rest = ledger_pieces (ledger_of is' ss' ts') in
+      w ∙ ap (λ (ps : List (List ℕ)). after_all ps a) rows-first ∙ sym (joint (entry_pieces (entry_of i s t)) rest a b (after_all rest b) g refl)
 
-  pub rows-size : (n : ℕ) → Few 30 (flatten (entry_pieces (entry_of (get_or is i 0) (get_or ss i 0) (get_or ts i 0)))) n → i < length is
-      → length (flatten (ledger_pieces (drop i (ledger_of is ss ts)))) ≡ n + length (flatten (ledger_pieces (drop (i + 1) (ledger_of is ss ts))))
-  unfolding ledger_pieces
-  rows-size n w h =
-      row_step (λ (l : List Entry). length (flatten (ledger_pieces l))) is ss ts i p q h
-      ∙ ap length (flatten-append (entry_pieces (entry_of (get_or is i 0) (get_or ss i 0) (get_or ts i 0))) (ledger_pieces (drop (i + 1) (ledger_of is ss ts))))
-      ∙ length-append (flatten (entry_pieces (entry_of (get_or is i 0) (get_or ss i 0) (get_or ts i 0)))) (flatten (ledger_pieces (drop (i + 1) (ledger_of is ss ts))))
-      ∙ ap (λ (k : ℕ). k + length (flatten (ledger_pieces (drop (i + 1) (ledger_of is ss ts))))) (sym w.is)
+  pub rows-size : (n : ℕ) → Few 30 (flatten (entry_pieces (entry_of i s t))) n
+      → length (flatten (ledger_pieces (ledger_of is ss ts))) ≡ n + length (flatten (ledger_pieces (ledger_of is' ss' ts')))
+  rows-size n w =
+      let one = entry_pieces (entry_of i s t) in
+      let rest = ledger_pieces (ledger_of is' ss' ts') in
+      ap (λ (ps : List (List ℕ)). length (flatten ps)) rows-first ∙ ap length (flatten-append one rest) ∙ length-append (flatten one) (flatten rest)
+      ∙ ap (λ (k : ℕ). k + length (flatten rest)) (sym w.is)
 
-  pub rows-size-end : length is ≤ i → length (flatten (ledger_pieces (drop i (ledger_of is ss ts)))) ≡ 0
-  unfolding ledger_pieces flatten
-  rows-size-end h = row-end (λ (l : List Entry). length (flatten (ledger_pieces l))) is ss ts i p q h
+-- a column has no further row
+rows-none : (is ss ts : List ℕ) → ((length is ≡ 0) ⊎ (length ss ≡ 0)) ⊎ (length ts ≡ 0) → ledger_pieces (ledger_of is ss ts) ≡ []
+unfolding ledger_pieces ledger_of
+rows-none [] ss ts e = refl
+rows-none (i ∷ is) [] ts e = refl
+rows-none (i ∷ is) (s ∷ ss) [] e = refl
+rows-none (i ∷ is) (s ∷ ss) (t ∷ ts) (inl (inl e)) = absurd (suc-ne-zero _ e)
+rows-none (i ∷ is) (s ∷ ss) (t ∷ ts) (inl (inr e)) = absurd (suc-ne-zero _ e)
+rows-none (i ∷ is) (s ∷ ss) (t ∷ ts) (inr e) = absurd (suc-ne-zero _ e)
+
+module _ (is ss ts : List ℕ) (e : ((length is ≡ 0) ⊎ (length ss ≡ 0)) ⊎ (length ts ≡ 0)) where
+  pub rows-put-end : (whole a : Cursor) → whole ≡ after_all (ledger_pieces (ledger_of is ss ts)) a → a ≡ whole
+  unfolding after_all
+  rows-put-end whole a w = sym (w ∙ ap (λ (ps : List (List ℕ)). after_all ps a) (rows-none is ss ts e))
+
+  pub rows-size-end : length (flatten (ledger_pieces (ledger_of is ss ts))) ≡ 0
+  unfolding flatten
+  rows-size-end = ap (λ (ps : List (List ℕ)). length (flatten ps)) (rows-none is ss ts e)
 
 pub ruleset entries = (torn-flag, state-0, state-1, state-2, entry-torn, entry_whole, size-torn, size-whole)

@@ -1,7 +1,7 @@
 -- The ways out of `sweep_line`: how long the line is, and what is answered where it fits and where it does not.
 -- Assumes nothing.
 use mathlib.Core.Path.{◌≡◌, ap, ◌∙◌}
-use mathlib.Core.Bool.{Bool, true, false, not}
+use mathlib.Core.Bool.{Bool, true, false}
 use mathlib.Core.List.{List, [], ◌∷◌, ◌++◌, flatten}
 use Prim.Native.Nat.{ℕ, ◌+◌}
 use native.Mathlib.Omega.{arith}
@@ -9,11 +9,11 @@ use lib.ListN.{length, length-append}
 use lib.Dec.{leb}
 use Rattle.landing.specs.declared.Stop.{Stop}
 use Rattle.model.specs.Columns.{ledger_of, refused}
-use Rattle.session.specs.declared.Armed.{Armed}
+use Rattle.session.specs.Armed.{Armed}
 use Rattle.pieces.specs.Pieces.{letter, Cursor, cursor, after, after_all}
 use Rattle.pieces.proofs.Lists.{flatten-append}
 use Rattle.pieces.proofs.Cursors.{joint, last-piece}
-use Rattle.lines.specs.declared.Line.TheVariants.{Past, NotWritten}
+use Rattle.std.specs.Prelude.{Ok as Past, Err as NotWritten}
 use Rattle.lines.specs.Lines.{sweep_line}
 use Rattle.lines.specs.Answers.{Put}
 use Rattle.lines.proofs.Puts.{put-not, line-short, line-done}
@@ -21,6 +21,9 @@ use Rattle.sweep_heads.specs.Heads.{head_pieces, Few}
 use Rattle.sweep_lines.specs.Answers.{shown_of, sweep_put}
 use Rattle.sweep_lines.specs.Fields.{ledger_pieces}
 use Rattle.sweep_lines.proofs.Texts.{sweep-pieces}
+
+pub zero_is : ◌≡◌ {A = ℕ} 0 0
+zero_is = omega arith
 
 -- a text and the LF
 last : (t : List ℕ) → length (t ++ flatten (letter 10 ∷ [])) ≡ length t + 1
@@ -43,13 +46,13 @@ module _ (place : ℕ) (armed : Armed) (stop : Stop) (operations : ℕ) (is ss t
         let q : length (flatten (head ++ entries ++ (letter 10 ∷ []))) ≡ length (sweep_line place (shown_of armed stop operations is ss ts)) = ap length (sweep-pieces place (shown_of armed stop operations is ss ts)) in
         omega (arith, l, k, q, w.is)
 
-    pub sweep-short : not f ≡ true → ◌≡◌ {A = Put} (record { reply = NotWritten 13; out = out }) (sweep_put place armed stop operations is ss ts at out)
+    pub sweep-short : f ≡ false → ◌≡◌ {A = Put} (record { reply = NotWritten 13; out = out }) (sweep_put place armed stop operations is ss ts at out)
     unfolding sweep_put
     sweep-short h =
         rw (← u)
         (line-short number z (sweep_line place (shown_of armed stop operations is ss ts)) at out f (at + (n + 1) + length (flatten (ledger_pieces (ledger_of is ss ts)))) e past-sweep h)
 
-    pub sweep-done : not f ≡ false → (a b : Cursor) (r : ℕ) (new : List ℕ) → a ≡ after_all (head_pieces place armed stop operations) (cursor at out)
+    pub sweep-done : f ≡ true → (a b : Cursor) (r : ℕ) (new : List ℕ) → a ≡ after_all (head_pieces place armed stop operations) (cursor at out)
         → b ≡ after_all (ledger_pieces (ledger_of is ss ts)) a → cursor r new ≡ after (letter 10) b
         → ◌≡◌ {A = Put} (record { reply = Past r; out = new }) (sweep_put place armed stop operations is ss ts at out)
     unfolding sweep_put

@@ -2,7 +2,7 @@
 use Rattle.std.specs.Prelude.{List, ℕ}
 use Rattle.landing.specs.declared.Stop.{Stop}
 use Rattle.model.specs.Columns.{ledger_of, refused}
-use Rattle.session.specs.declared.Armed.{Armed}
+use Rattle.session.specs.Armed.{Armed}
 use Rattle.lines.specs.Lines.{Shown, sweep_line}
 use Rattle.lines.specs.Answers.{Put, put}
 

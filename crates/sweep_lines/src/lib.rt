@@ -5,21 +5,23 @@
 // of specs/.
 #![tactic(auto)]
 
-ghost use Rattle.std.specs.Prelude.{◌≡◌, ◌+◌, length, leb};
+ghost use Rattle.std.specs.Prelude.{◌≡◌, ◌+◌, length, leb, IsErr};
 ghost use mathlib.Core.List.{flatten};
 ghost use Rattle.model.specs.Columns.{state_of, entry_of, ledger_of};
 ghost use Rattle.model.specs.Ledger.{is_torn};
-ghost use Rattle.pieces.specs.Pieces.{cursor, after_all};
+ghost use Rattle.pieces.specs.Pieces.{after_all};
+ghost use Rattle.pieces.specs.Cursors.{cursor_in, SameOut};
 ghost use Rattle.lines.specs.Lines.{state_letter};
-ghost use Rattle.lines.specs.Answers.{Put};
+ghost use Rattle.lines.specs.Written.{written};
 ghost use Rattle.sweep_heads.specs.Heads.{Few};
 ghost use Rattle.sweep_lines.specs.Answers.{sweep_put};
 ghost use Rattle.sweep_lines.specs.Fields.{entry_pieces, ledger_pieces};
 
+use inject::Injection;
 use landing::Stop;
-use lines::Line;
-use pieces::{fits, put_byte, put_field};
-use session::Armed;
+use model::LedgerRef;
+use pieces::{Cursor, fits};
+use refusals::Refusal;
 use sweep_heads::{head_size, put_head};
 use text::LF;
 
@@ -28,77 +30,66 @@ use text::LF;
 fn state_letter(state: u8) -> u8
     ensures { result ≡ state_letter (state_of state) }
 {
-    if state == 0 {
-        return b'a';
+    match state {
+        0 => b'a',
+        1 => b'd',
+        _ => b'k',
     }
-    if state == 1 {
-        return b'd';
-    }
-    b'k'
 }
 
 // Torn is dropped where the state is attempted.
 fn is_torn(state: u8, torn: u8) -> bool
     ensures { result ≡ is_torn (entry_of 0 state torn) }
 {
-    (state != 0) & (torn == 1)
+    state != 0 && torn == 1
 }
 
-fn put_entry(id: u32, state: u8, torn: u8, out: &mut [u8], at: usize) -> usize
-    ensures { cursor result out.new ≡ after_all (entry_pieces (entry_of id state torn)) (cursor at out.old) }
+fn put_entry(id: u32, state: u8, torn: u8, to: &mut Cursor<'_>)
+    ensures same { SameOut to.old to.new }
+    ensures put { cursor_in to.new ≡ after_all (entry_pieces (entry_of id state torn)) (cursor_in to.old) }
 {
-    let letter = state_letter(state);
-    let marked = is_torn(state, torn);
-    let named = put_field(id as u64, out, at);
-    let stated = put_byte(letter, out, named);
-    if marked {
-        return put_byte(b't', out, stated);
+    to.put_field(id as u64);
+    to.put_byte(state_letter(state));
+    if is_torn(state, torn) {
+        to.put_byte(b't');
     }
-    stated
 }
 
 fn entry_size(id: u32, state: u8, torn: u8) -> usize
     ensures { Few 30 (flatten (entry_pieces (entry_of id state torn))) result }
 {
     let digits = text::places(id as u64);
-    let marked = is_torn(state, torn);
-    if marked {
-        return digits + 3;
+    if is_torn(state, torn) {
+        digits + 3
+    } else {
+        digits + 2
     }
-    digits + 2
 }
 
-fn put_entries(ids: &[u32], states: &[u8], torn: &[u8], out: &mut [u8], at: usize) -> usize
-    requires { (length states.now ≡ length ids.now) × (length torn.now ≡ length ids.now) }
-    ensures { cursor result out.new ≡ after_all (ledger_pieces (ledger_of ids.now states.now torn.now)) (cursor at out.old) }
+fn put_entries(ledger: &LedgerRef<'_>, to: &mut Cursor<'_>)
+    ensures same { SameOut to.old to.new }
+    ensures put { cursor_in to.new ≡ after_all (ledger_pieces (ledger_of ledger.now.ids.now ledger.now.states.now ledger.now.torn.now)) (cursor_in to.old) }
 {
-    let mut past = at;
-    let mut row = 0;
-    while row < ids.len() {
-        past = put_entry(ids[row], states[row], torn[row], out, past);
-        row += 1;
+    for ((id, state), torn) in ledger.ids.iter().zip(ledger.states).zip(ledger.torn) {
+        put_entry(*id, *state, *torn, to);
     }
-    past
 }
 
 // Whether a line of `size` bytes and the entries' fields fits. What is left of the room is carried, so that no sum can wrap.
-fn entries_fit(ids: &[u32], states: &[u8], torn: &[u8], size: usize, at: usize, room: usize) -> bool
-    requires { (length states.now ≡ length ids.now) × (length torn.now ≡ length ids.now) }
-    ensures { result ≡ leb (at + size + length (flatten (ledger_pieces (ledger_of ids.now states.now torn.now)))) room }
+// `lines` has the same loop over one column of ids: a trait for what both walk would be longer than the two loops.
+fn entries_fit(ledger: &LedgerRef<'_>, size: usize, at: usize, room: usize) -> bool
+    ensures { result ≡ leb (at + size + length (flatten (ledger_pieces (ledger_of ledger.now.ids.now ledger.now.states.now ledger.now.torn.now)))) room }
 {
-    let fitting = fits(size, at, room);
-    if !fitting {
+    if !fits(size, at, room) {
         return false;
     }
     let mut left = room - at - size;
-    let mut i = 0;
-    while i < ids.len() {
-        let more = entry_size(ids[i], states[i], torn[i]);
+    for ((id, state), torn) in ledger.ids.iter().zip(ledger.states).zip(ledger.torn) {
+        let more = entry_size(*id, *state, *torn);
         if left < more {
             return false;
         }
         left -= more;
-        i += 1;
     }
     true
 }
@@ -108,27 +99,23 @@ fn entries_fit(ids: &[u32], states: &[u8], torn: &[u8], size: usize, at: usize, 
 // A run's line of `sweep`. Its ledger is all the rows of the three columns.
 pub fn sweep_line(
     place: u64,
-    armed: Armed,
+    armed: Option<Injection>,
     stop: Stop,
     operations: usize,
-    ids: &[u32],
-    states: &[u8],
-    torn: &[u8],
-    out: &mut [u8],
-    at: usize,
-) -> Line
-    ensures { ◌≡◌ {A = Put} (record { reply = result; out = out.new }) (sweep_put place armed stop operations ids.now states.now torn.now at out.old) }
+    ledger: &LedgerRef<'_>,
+    to: &mut Cursor<'_>,
+) -> Result<(), Refusal>
+    ensures same { SameOut to.old to.new }
+    ensures put { written result to.new ≡ sweep_put place armed stop operations ledger.now.ids.now ledger.now.states.now ledger.now.torn.now to.old.at to.old.out.now }
+    ensures stays { IsErr result → to.new.at ≡ to.old.at }
 {
-    let number = model::refusal(ids, states, torn);
-    if number != 0 {
-        return Line::NotWritten(number);
-    }
+    ledger.refusal()?;
     let size = head_size(place, armed, stop, operations) + 1;
-    let fitting = entries_fit(ids, states, torn, size, at, out.len());
-    if !fitting {
-        return Line::NotWritten(13);
+    if !entries_fit(ledger, size, to.at, to.out.len()) {
+        return Err(Refusal::ColumnsTooShort);
     }
-    let headed = put_head(place, armed, stop, operations, out, at);
-    let listed = put_entries(ids, states, torn, out, headed);
-    Line::Past(put_byte(LF, out, listed))
+    put_head(place, armed, stop, operations, to);
+    put_entries(ledger, to);
+    to.put_byte(LF);
+    Ok(())
 }

@@ -30,7 +30,7 @@ use Rattle.inject.specs.Ops.{ops_of}
 use Rattle.inject.specs.Points.{progresses, point, under, lone, opening, injections_of}
 use Rattle.inject.specs.Claims.{IndexIn}
 use Rattle.inject.proofs.Members.{indexes-in}
-use Rattle.session.specs.declared.Armed.{Armed}
+use Rattle.session.specs.Armed.{Armed}
 use Rattle.threaded.specs.Threaded.{Session}
 use Rattle.script.specs.declared.Head.{Head}
 use Rattle.script.specs.Calls.{Call}

@@ -16,7 +16,7 @@ use Rattle.inject.specs.declared.Injection.{Injection}
 use Rattle.inject.specs.declared.Progress.TheVariants.{None}
 use Rattle.inject.specs.declared.Interruption.TheVariants.{Watchdog}
 use Rattle.inject.specs.Points.{point, opening}
-use Rattle.session.specs.declared.Armed.TheVariants.{Nothing, At}
+use Rattle.std.specs.Prelude.{None as Nothing, Some as At}
 use Rattle.threaded.specs.Threaded.{Session}
 use Rattle.script.specs.declared.Head.{Head}
 use Rattle.script.specs.Calls.{Call}

@@ -15,7 +15,7 @@ use lib.Seq.{take-set-le}
 use borrow.Author.Tests.{ne_eqb}
 use Rattle.basics.proofs.Tests.{first_of-zero}
 use Rattle.session.specs.declared.Told.{Told}
-use Rattle.session.specs.declared.Armed.{Armed}
+use Rattle.session.specs.Armed.{Armed}
 use Rattle.session.specs.Log.{Marks}
 use Rattle.session.specs.Tests.{marks_test, mark_test, marks_number}
 use Rattle.session.specs.Armed.{armed_on, is_armed}

@@ -21,8 +21,8 @@ use Rattle.device.proofs.Pairs.{false_left, false_right}
 use Rattle.landing.specs.Ending.{stop_number}
 use Rattle.digest.specs.Fnv.{digest_of}
 use Rattle.session.specs.declared.Told.{Told}
-use Rattle.session.specs.declared.Armed.{Armed}
-use Rattle.session.specs.declared.Armed.TheVariants.{Nothing}
+use Rattle.session.specs.Armed.{Armed}
+use Rattle.std.specs.Prelude.{None as Nothing}
 use Rattle.session.specs.Log.{Log, Mark, mark_of}
 use Rattle.session.specs.Tests.{size_test, log_short, log_length_test, log_test, operation_test}
 use Rattle.session.specs.Armed.{armed_on, is_armed, program_lands, erase_lands, ended_by, next_count, write_reply}

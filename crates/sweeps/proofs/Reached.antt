@@ -23,8 +23,8 @@ use Rattle.inject.specs.declared.Interruption.{Interruption}
 use Rattle.inject.specs.declared.Interruption.TheVariants.{Watchdog}
 use Rattle.landing.specs.Ending.{ending_of}
 use Rattle.session.specs.declared.Told.{Told}
-use Rattle.session.specs.declared.Armed.{Armed}
-use Rattle.session.specs.declared.Armed.TheVariants.{Nothing, At}
+use Rattle.session.specs.Armed.{Armed}
+use Rattle.std.specs.Prelude.{None as Nothing, Some as At}
 use Rattle.session.specs.Armed.{armed_on}
 use Rattle.session.specs.Log.{mark_of}
 use Rattle.records.specs.Records.{RecordMark}

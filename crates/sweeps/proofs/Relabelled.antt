@@ -13,7 +13,7 @@ use borrow.Author.Tests.{eqb-true, ne_eqb}
 use Rattle.inject.specs.declared.Injection.{Injection}
 use Rattle.session.specs.declared.Told.{Told}
 use Rattle.session.specs.declared.Counters.{Counters}
-use Rattle.session.specs.declared.Armed.TheVariants.{Nothing, At}
+use Rattle.std.specs.Prelude.{None as Nothing, Some as At}
 use Rattle.records.specs.Records.{ledger_by}
 use Rattle.ledger.specs.Ledger.{Row, rows_from, rows_of, marks_listed, asked, ledger_of_run}
 use Rattle.threaded.specs.Threaded.{Session, session_ledger}

@@ -9,8 +9,8 @@ use Rattle.inject.specs.declared.Injection.{Injection}
 use Rattle.inject.specs.Ops.{ops_of}
 use Rattle.inject.specs.Points.{injections_of}
 use Rattle.session.specs.declared.Told.{Told}
-use Rattle.session.specs.declared.Armed.{Armed}
-use Rattle.session.specs.declared.Armed.TheVariants.{Nothing, At}
+use Rattle.session.specs.Armed.{Armed}
+use Rattle.std.specs.Prelude.{None as Nothing, Some as At}
 use Rattle.session.specs.Armed.{told_with}
 use Rattle.session.specs.Log.{log_of, marks_of}
 use Rattle.session.specs.Start.{fresh}

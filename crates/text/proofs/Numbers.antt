@@ -1,18 +1,10 @@
--- One digit, and a zero in front of others. Assumes nothing.
+-- A digit, and a zero in front of others. Assumes nothing.
 use mathlib.Core.Path.{◌≡◌, refl}
 use mathlib.Core.Bool.{true, false}
 use mathlib.Core.List.{List, [], ◌∷◌}
-use Prim.Native.Nat.{ℕ, ◌≤◌, ◌<◌}
-use borrow.Author.Tests.{ne_eqb, le-leb, lt-leb}
+use Prim.Native.Nat.{ℕ, ◌≤◌}
+use borrow.Author.Tests.{ne_eqb, le-leb}
 use Rattle.text.specs.Numbers.{is_digit, zero_led}
-
-pub digit_low : (d : ℕ) → d < 48 → is_digit d ≡ false
-unfolding is_digit
-digit_low d h = simp (lt-leb _ _ h)
-
-pub digit-high : (d : ℕ) → 48 ≤ d → 57 < d → is_digit d ≡ false
-unfolding is_digit
-digit-high d h k = simp (le-leb _ _ h, lt-leb _ _ k)
 
 pub digit-is : (d : ℕ) → 48 ≤ d → d ≤ 57 → is_digit d ≡ true
 unfolding is_digit

@@ -1,9 +1,7 @@
 -- How long a number is as text, and the text written into a lent buffer.
 -- Definitions only; assumes nothing.
-use Rattle.std.specs.Prelude.{◌≡◌, cond, List, ℕ, ◌+◌, ◌≤◌, length}
+use Rattle.std.specs.Prelude.{◌≡◌, cond, List, ℕ, ◌+◌, ◌≤◌, length, Option, Some as Next, None as NoRoom}
 use Rattle.basics.specs.Parts.{within, overlaid}
-use Rattle.text.specs.declared.Printed.{Printed}
-use Rattle.text.specs.declared.Printed.TheVariants.{Next, NoRoom}
 use Rattle.text.specs.Numbers.{decimal_of}
 
 -- how many digits a number has; they are few, so that a caller can add them up
@@ -11,9 +9,9 @@ pub record Places (n r : ℕ) : Type 0 where
   pub is : r ≡ length (decimal_of n)
   pub few : r ≤ 20
 
--- what is answered, and the buffer then
+-- what is answered, the place past the digits or that there is no room, and the buffer then
 pub record Print : Type 0 where
-  pub reply : Printed
+  pub reply : Option ℕ
   pub out : List ℕ
 
 -- the digits from a place of the buffer on, and the place past them; where they do not fit nothing is written

@@ -12,24 +12,14 @@ pub const TAB: u8 = 9;
 
 pub const LF: u8 = 10;
 
-// The place past what was printed.
-#[derive(Clone, Copy)]
-pub enum Printed {
-    Next(usize),
-    NoRoom,
-}
-
 // How many digits a number has in decimal: how much room `print_number` needs for it.
 pub fn places(n: u64) -> usize
     ensures { Places n result }
 {
-    let mut count = 1;
-    let mut rest = n / 10;
-    while 0 < rest {
-        rest = rest / 10;
-        count += 1;
+    match n.checked_ilog10() {
+        Some(power) => power as usize + 1,
+        None => 1,
     }
-    count
 }
 
 // Writes a number's digits, the last one first, over a buffer that has one place for each.
@@ -37,28 +27,24 @@ fn spell(n: u64, digits: &mut [u8])
     requires { length digits.old ≡ length (decimal_of n) }
     ensures { digits.new ≡ decimal_of n }
 {
-    let mut i = digits.len();
     let mut rest = n;
-    while 0 < i {
-        i -= 1;
-        digits[i] = (48 + rest % 10) as u8;
-        rest = rest / 10;
+    for i in (0..digits.len()).rev() {
+        digits[i] = b'0' + (rest % 10) as u8;
+        rest /= 10;
     }
 }
 
 // Writes a number in decimal, without leading zeros, from `at` on, and answers the place past it. Where it does not fit
 // nothing is written.
-pub fn print_number(n: u64, out: &mut [u8], at: usize) -> Printed
+pub fn print_number(n: u64, out: &mut [u8], at: usize) -> Option<usize>
     ensures { ◌≡◌ {A = Print} (record { reply = result; out = out.new }) (printed_at n at out.old) }
 {
     let count = places(n);
-    if out.len() < at {
-        return Printed::NoRoom;
-    }
-    if out.len() - at < count {
-        return Printed::NoRoom;
+    let room = out.len().checked_sub(at)?;
+    if room < count {
+        return None;
     }
     let past = at + count;
     spell(n, &mut out[at..past]);
-    Printed::Next(past)
+    Some(past)
 }

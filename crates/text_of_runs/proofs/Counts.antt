@@ -9,6 +9,7 @@ use mathlib.Core.List.{List, [], ◌∷◌, ◌++◌, map}
 use Prim.Native.Nat.{ℕ, zero, suc, ◌+◌, ◌*◌, ◌%◌, ◌^◌, ◌≤◌, zero-le}
 use native.Mathlib.Nat.{le_refl, le_trans}
 use native.Mathlib.Omega.{arith}
+use Rattle.std.proofs.lemmas.Bool.{and_parts}
 use lib.ListN.{length, take, set, length-append, length-map}
 use lib.Seq.{length-take-le}
 use lib.Dec.{eqb, leb, ltb}
@@ -30,7 +31,7 @@ use Rattle.inject.specs.Points.{multiples, inner, byte_points, none_point, whole
 use Rattle.landing.specs.Ending.{stop_number}
 use Rattle.model.specs.Columns.{all_up_to}
 use Rattle.session.specs.declared.Told.{Told}
-use Rattle.session.specs.declared.Armed.{Armed}
+use Rattle.session.specs.Armed.{Armed}
 use Rattle.session.specs.Log.{Log}
 use Rattle.session.specs.Tests.{size_test, log_test, operation_test}
 use Rattle.session.specs.Written.{Written}
@@ -43,7 +44,7 @@ use Rattle.script.specs.Calls.{Call, begin, end, mark, program, erase, barrier}
 use Rattle.steps.specs.Writer.{line_answered, Wrote, wrote}
 use Rattle.sweeps.specs.Sweep.{told_by, opened_by, run_by, points_of}
 use Rattle.text_of_runs.specs.Steady.{Steady}
-use Rattle.text_of_runs.proofs.Codes.{and_left, and_right, set_known, take-known, zeros-known}
+use Rattle.text_of_runs.proofs.Codes.{set_known, take-known, zeros-known}
 use Rattle.text_of_runs.proofs.Steady.{run-steady}
 
 -- ---- lengths
@@ -59,7 +60,7 @@ span-inside g unit offset len e =
     let two = first_of-zero a (b ∷ c ∷ []) one.1 in
     let three = first_of-zero b (c ∷ []) two.1 in
     let four = first_of-zero c [] three.1 in
-    let k = leb-true (offset + len) g.capacity (and_right (ltb (offset + len) (2 ^ 32)) (leb (offset + len) g.capacity) (unless-zero inside 5 four.0)) in
+    let k = leb-true (offset + len) g.capacity (and_parts (ltb (offset + len) (2 ^ 32)) (leb (offset + len) g.capacity) (unless-zero inside 5 four.0)).1 in
     omega arith
 
 -- every length recorded is at most so much
@@ -223,8 +224,9 @@ under-few g w i (k ∷ ks) (o ∷ os) (l ∷ ls) e =
     let b : length here ≡ length (progresses g w x) = length-map (progresses g w x) (point i w) in
     let c = progresses-few g w x in
     let d : len_of x ≤ l = len-row k o l in
-    let f = leb-true l 16384 (and_left (leb l 16384) (all_up_to 16384 ls) e) in
-    let r = under-few g w (suc i) ks os ls (and_right (leb l 16384) (all_up_to 16384 ls) e) in
+    let both = and_parts (leb l 16384) (all_up_to 16384 ls) e in
+    let f = leb-true l 16384 both.0 in
+    let r = under-few g w (suc i) ks os ls both.1 in
     omega arith
 
 lone-few : (os : List Op) → length (lone os) ≤ 1

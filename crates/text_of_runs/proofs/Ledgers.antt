@@ -7,25 +7,25 @@
 --     run-ended        so a run that its rows do not refuse ends
 --     run-reads        and the first rows of the ledger's columns are the ledger
 -- Assumes nothing.
-use mathlib.Core.Path.{◌≡◌, refl, ap, ◌∙◌}
+use mathlib.Core.Path.{◌≡◌, ap, ◌∙◌}
 use mathlib.Core.Bool.{true, false}
-use mathlib.Core.List.{List, [], ◌∷◌}
-use Prim.Native.Nat.{ℕ, zero, suc, ◌≤◌}
+use mathlib.Core.List.{List}
+use Prim.Native.Nat.{ℕ, ◌≤◌}
 use native.Mathlib.Nat.{le_trans}
-use native.Mathlib.Omega.{arith}
-use lib.ListN.{length, take, replicate, length-replicate}
+use Rattle.std.proofs.lemmas.List.{take-replicate}
+use lib.ListN.{length, replicate, length-replicate}
 use lib.Seq.{length-take-le}
 use lib.Dec.{leb}
 use borrow.Author.Tests.{eq-eqb, le-leb, le-ltb}
 use Rattle.basics.specs.Tests.{unless, refuse_if, first_of}
 use Rattle.device.specs.Media.{new_media}
 use Rattle.model.specs.Ledger.{Entry}
-use Rattle.session.specs.declared.Armed.{Armed}
+use Rattle.session.specs.Armed.{Armed}
 use Rattle.session.specs.declared.Told.{Told}
 use Rattle.session.specs.Log.{log_of, marks_of}
 use Rattle.session.specs.Tests.{size_test, log_uneven_of, marks_uneven_of}
 use Rattle.session.specs.Start.{fresh}
-use Rattle.ledger.specs.declared.Derived.TheVariants.{Entries}
+use Rattle.std.specs.Prelude.{Ok as Entries}
 use Rattle.ledger.specs.Ledger.{codes_known, counts_short, ledger_number, entries_uneven, entered, ledgered, ledger_call}
 use Rattle.ledger.proofs.Readback.{first_rows, ledger_in, refused_in, reads-back}
 use Rattle.ledger.proofs.Sanity.{ledger-few}
@@ -36,8 +36,7 @@ use Rattle.script.specs.Columns.{Columns}
 use Rattle.script.specs.Held.{calls_in}
 use Rattle.steps.specs.Writer.{Wrote, wrote}
 use Rattle.sweeps.specs.Sweep.{told_by, opened_by, run_by}
-use Rattle.harness_runs.specs.declared.Ran.TheVariants.{Ended}
-use Rattle.harness_runs.specs.Running.{zeros, RunLeft, run_left, left_by, ledgered_with, opening, run_number, run_call, no_entries, cells, ran_on}
+use Rattle.harness_runs.specs.Running.{Ended, zeros, RunLeft, run_left, left_by, ledgered_with, opening, run_number, run_call, no_entries, cells, ran_on}
 use Rattle.text_of_runs.specs.Steady.{Steady}
 use Rattle.text_of_runs.proofs.Codes.{take-known}
 use Rattle.text_of_runs.proofs.Steady.{run-steady}
@@ -57,15 +56,10 @@ pub opened-is : (h : Head) → h.geometry.capacity ≤ 16384 → opening (cells 
 unfolding zeros
 opened-is h small =
     let a : new_media (length (cells h)) ≡ new_media h.geometry.capacity = ap new_media (cells-long h small) in
-    let b : cells h ≡ replicate h.geometry.capacity 0 = few h.geometry.capacity 16384 small in
+    let b : cells h ≡ replicate h.geometry.capacity 0 = take-replicate h.geometry.capacity 16384 0 small in
     let column : List ℕ = replicate 1024 0 in
     let marks : List ℕ = replicate 512 0 in
     λ i. record { counters = fresh; media = a i; copy = b i; log = log_of column column column column column column; marks = marks_of marks marks marks }
-  where
-    few : (m n : ℕ) → m ≤ n → take {A = ℕ} m (replicate n 0) ≡ replicate m 0
-    few zero n w = refl
-    few (suc m) zero w = absurd (omega arith)
-    few (suc m) (suc n) w = ap (λ (xs : List ℕ). 0 ∷ xs) (few m n (omega arith))
 
 -- ---- no number refuses the ledger
 

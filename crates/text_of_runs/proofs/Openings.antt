@@ -6,7 +6,7 @@
 -- Assumes nothing.
 use mathlib.Core.Path.{◌≡◌, refl, sym, ap, ◌∙◌}
 use mathlib.Core.Bool.{Bool, true, cond}
-use mathlib.Core.List.{List, []}
+use mathlib.Core.List.{List}
 use Prim.Native.Nat.{ℕ, zero, suc, ◌≤◌, ◌<◌}
 use lib.ListN.{length, take, get_or, length-map}
 use lib.Seq.{length-take-le}
@@ -15,12 +15,10 @@ use Rattle.basics.specs.Tests.{unless, first_of}
 use Rattle.basics.proofs.Lists.{get_or-map-lt}
 use Rattle.storage.specs.Geometry.{geometry_test}
 use Rattle.inject.specs.declared.Injection.{Injection}
-use Rattle.inject.specs.declared.Counted.TheVariants.{Points}
-use Rattle.inject.specs.declared.Found.TheVariants.{Point}
+use Rattle.std.specs.Prelude.{Ok as Points, Ok as Point, None as Nothing, Some as At, Ok as Run}
 use Rattle.inject.specs.Points.{opening}
 use Rattle.inject.specs.Answers.{list_test, counted, found}
-use Rattle.session.specs.declared.Armed.{Armed}
-use Rattle.session.specs.declared.Armed.TheVariants.{Nothing, At}
+use Rattle.session.specs.Armed.{Armed}
 use Rattle.threaded.specs.Threaded.{Session}
 use Rattle.script.specs.declared.Head.{Head}
 use Rattle.script.specs.Calls.{Call}
@@ -28,11 +26,8 @@ use Rattle.script.specs.Columns.{Columns}
 use Rattle.script.specs.Held.{calls_in}
 use Rattle.sweeps.specs.Sweep.{run_by, points_of}
 use Rattle.sweeps.specs.Decided.{meets26, run_shown, runs_shown}
-use Rattle.harness.specs.declared.Opened.{Opened}
-use Rattle.harness.specs.declared.Opened.TheVariants.{Runs, NotSwept}
-use Rattle.armed_runs.specs.declared.Placed.TheVariants.{Run}
+use Rattle.harness.specs.Opening.{Opened, Runs, NotSwept, open_points, OpenLeft, open_left, opened_with, open_call, open_on}
 use Rattle.harness_runs.specs.Running.{run_number, cells, ran_on}
-use Rattle.harness.specs.Opening.{open_points, OpenLeft, open_left, opened_with, open_call, open_on}
 use Rattle.armed_runs.specs.Places.{armed_by, free_by, placed_at}
 use Rattle.text_of_runs.specs.Steady.{Steady}
 use Rattle.text_of_runs.proofs.Codes.{take-known, kinds-known}

@@ -12,12 +12,11 @@ use lib.ListN.{length, take, drop}
 use lib.Seq.{take_at}
 use borrow.Author.Tests.{le-leb}
 use Rattle.basics.specs.Tests.{unless, first_of}
-use Rattle.model.specs.declared.ListAnswer.TheVariants.{ListIs}
+use Rattle.basics.specs.Replies.{number_in}
+use Rattle.std.specs.Prelude.{Ok as ListIs, None as Absent}
 use Rattle.model.specs.Ledger.{Entry, is_committed, is_torn, ids, picked}
 use Rattle.model.specs.Columns.{ledger_of, refused}
-use Rattle.oracle.specs.declared.Banks.TheVariants.{Absent}
-use Rattle.oracle.specs.declared.Verdict.{Verdict}
-use Rattle.oracle.specs.Verdict.{number_of, verdict, verified}
+use Rattle.oracle.specs.Verdict.{Verdict, number_of, verdict, verified}
 use Rattle.history.specs.History.{suggested, suggested_written}
 use Rattle.lines.specs.Lines.{Shown, sweep_line, judged_line, judge_line}
 use Rattle.lines.specs.Answers.{put}
@@ -61,6 +60,6 @@ module _ (place : ℕ) (r : Shown) (is ss ts : List ℕ) (holds : ledger_of is s
   verdict-is = rw (sound, holds)
 
   -- and the verdict on both gives the run's line of `judge`
-  pub judge-written : judged_line place (number_of (verified is ss ts (suggested r.ledger) [] Absent)) (suggested r.ledger) ≡ judge_line place r
+  pub judge-written : judged_line place (number_in number_of (verified is ss ts (suggested r.ledger) [] Absent)) (suggested r.ledger) ≡ judge_line place r
   unfolding judge_line
-  judge-written = ap (λ (v : Verdict). judged_line place (number_of v) (suggested r.ledger)) verdict-is
+  judge-written = ap (λ (v : Verdict). judged_line place (number_in number_of v) (suggested r.ledger)) verdict-is

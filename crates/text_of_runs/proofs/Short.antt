@@ -14,6 +14,7 @@ use lib.ListN.{length, length-append, length-map}
 use lib.Dec.{ltb}
 use borrow.Author.Tests.{le-leb}
 use Rattle.basics.specs.Tests.{unless, first_of}
+use Rattle.basics.specs.Replies.{number_in}
 use Rattle.basics.specs.Parts.{overlaid}
 use Rattle.basics.proofs.Lists.{Each, each_append, each-cons, each_none, each_map}
 use Rattle.inject.specs.declared.Progress.{Progress}
@@ -21,13 +22,11 @@ use Rattle.inject.specs.declared.Progress.TheVariants.{None, Bytes, Whole}
 use Rattle.landing.specs.declared.Stop.{Stop}
 use Rattle.landing.specs.declared.Stop.TheVariants.{Running, PowerLost, CoreReset}
 use Rattle.model.specs.Ledger.{Entry, is_torn}
-use Rattle.oracle.specs.declared.Banks.TheVariants.{Absent}
+use Rattle.std.specs.Prelude.{None as Absent, None as Nothing, Some as At, Ok as Past}
 use Rattle.oracle.specs.Verdict.{number_of, verdict}
-use Rattle.session.specs.declared.Armed.{Armed}
-use Rattle.session.specs.declared.Armed.TheVariants.{Nothing, At}
+use Rattle.session.specs.Armed.{Armed}
 use Rattle.text.specs.Numbers.{decimal_in, decimal_of}
 use Rattle.script.specs.Print.{joined}
-use Rattle.lines.specs.declared.Line.TheVariants.{Past}
 use Rattle.history.specs.History.{suggested}
 use Rattle.pieces.specs.Pieces.{letter}
 use Rattle.lines.specs.Lines.{Shown, progress_field, point_fields, stop_field, state_letter, entry_field, line, sweep_line, judged_line, judge_line, runs_line, refused_text}
@@ -133,7 +132,7 @@ module _ (place : ℕ) (r : Shown) (few : length r.ledger ≤ 512) where
   unfolding judge_line
   judge-short =
       let history : List ℕ = suggested r.ledger in
-      let v : ℕ = number_of (verdict r.ledger history [] Absent) in
+      let v : ℕ = number_in number_of (verdict r.ledger history [] Absent) in
       let h : length (judged_line place v history) ≤ 23 * (2 + length history) + 1 = judged-short place v history in
       let s : length history ≤ length r.ledger = suggested-few r.ledger in
       omega arith

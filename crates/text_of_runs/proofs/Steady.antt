@@ -21,12 +21,10 @@ use Rattle.device.proofs.Cells.{length-anded}
 use Rattle.device.proofs.Programming.{length-programmed}
 use Rattle.device.proofs.Erasing.{length-erased}
 use Rattle.session.specs.declared.Told.{Told}
-use Rattle.session.specs.declared.Armed.{Armed}
+use Rattle.session.specs.Armed.{Armed, next_count, write_reply}
 use Rattle.session.specs.declared.Entry.{Entry}
-use Rattle.session.specs.declared.Called.{Called}
-use Rattle.session.specs.declared.Plan.{Plan}
+use Rattle.session.specs.Replies.{Called, Plan}
 use Rattle.session.specs.Log.{Log, logged, Marks, Mark, mark_of, marked}
-use Rattle.session.specs.Armed.{next_count, write_reply}
 use Rattle.session.specs.Written.{Written, written, Landing, landed_so}
 use Rattle.session.specs.Barrier.{Ordered, ordered, ordered_by, barrier_test, barrier_reply, barrier_entry, barriered}
 use Rattle.session.specs.Marks.{noted_test, noting, marked_from, noted}

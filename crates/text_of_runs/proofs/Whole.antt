@@ -11,16 +11,15 @@ use native.Mathlib.Omega.{arith}
 use lib.ListN.{length, get_or}
 use Rattle.storage.specs.Geometry.{geometry_test}
 use Rattle.model.specs.Answers.{Written}
-use Rattle.session.specs.declared.Armed.{Armed}
-use Rattle.session.specs.declared.Armed.TheVariants.{Nothing}
+use Rattle.session.specs.Armed.{Armed}
+use Rattle.std.specs.Prelude.{None as Nothing}
 use Rattle.ledger.specs.Ledger.{Entered}
 use Rattle.ledger.proofs.Readback.{ledger_in, refused_in}
 use Rattle.threaded.specs.Threaded.{Session}
 use Rattle.script.specs.declared.Head.{Head}
-use Rattle.script.specs.declared.ReadScript.TheVariants.{Read}
+use Rattle.script.specs.Columns.{Read, Columns, bytes_of, written, after, read_into}
 use Rattle.script.specs.Calls.{Call}
 use Rattle.script.specs.Script.{Script, script, refused, script_of}
-use Rattle.script.specs.Columns.{Columns, bytes_of, written, after, read_into}
 use Rattle.script.specs.Held.{calls_in}
 use Rattle.script.proofs.Kept.{calls-kept}
 use Rattle.script.proofs.Rooms.{never-short}

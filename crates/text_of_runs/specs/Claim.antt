@@ -1,28 +1,23 @@
 -- Document 01, "Scripts and the two programs": what `sweep` and `judge` print, said of the functions that they call. A program reads the
 -- script, opens the sweep, and at each place asks what is armed, runs the script with it and writes the run's line. What each function
 -- answers is the definition that its contract cites; the text is that of document 01. Definitions only; assumes nothing.
-use Rattle.std.specs.Prelude.{◌≡◌, Bool, ℕ, zero, suc, ◌≤◌, length, take}
+use Rattle.std.specs.Prelude.{◌≡◌, Bool, ℕ, zero, suc, ◌≤◌, length, take, None as Absent, Ok as ListIs, Ok as Run}
 use mathlib.Core.List.{List, [], ◌∷◌, flatten}
+use Rattle.basics.specs.Replies.{number_in}
 use Rattle.landing.specs.declared.Stop.{Stop}
-use Rattle.model.specs.declared.ListAnswer.TheVariants.{ListIs}
-use Rattle.oracle.specs.declared.Banks.TheVariants.{Absent}
 use Rattle.oracle.specs.Verdict.{number_of, verified}
-use Rattle.session.specs.declared.Armed.{Armed}
+use Rattle.session.specs.Armed.{Armed}
 use Rattle.ledger.specs.Ledger.{Entered, entered_of}
 use Rattle.script.specs.declared.Head.{Head}
-use Rattle.script.specs.declared.ReadScript.TheVariants.{Read, Refused}
-use Rattle.script.specs.Columns.{Columns, after, read_into}
+use Rattle.script.specs.Columns.{Read, Refused, Columns, after, read_into}
 use Rattle.lines.specs.Lines.{judged_line, runs_line, refused_text}
 use Rattle.history.specs.History.{suggested_written}
 use Rattle.lines.specs.Answers.{put}
 use Rattle.sweep_lines.specs.Answers.{sweep_put}
 use Rattle.sweeps.specs.Sweep.{sweep_output, judge_output}
-use Rattle.harness.specs.declared.Opened.TheVariants.{Runs, NotSwept}
-use Rattle.armed_runs.specs.declared.Placed.TheVariants.{Run}
-use Rattle.harness.specs.Opening.{OpenLeft, open_on}
+use Rattle.harness.specs.Opening.{Runs, NotSwept, OpenLeft, open_on}
 use Rattle.armed_runs.specs.Places.{placed_at}
-use Rattle.harness_runs.specs.declared.Ran.TheVariants.{Ended}
-use Rattle.harness_runs.specs.Running.{RunLeft, ran_on}
+use Rattle.harness_runs.specs.Running.{Ended, RunLeft, ran_on}
 use Rattle.text_of_runs.specs.Lent.{Sheet}
 use Rattle.text_of_runs.specs.Printout.{sweep_lines, judge_lines}
 
@@ -52,7 +47,7 @@ pub record RunPrinted (place : ℕ) (armed : Armed) (ran : RunLeft) (sweep judge
       → ((suggested_written rows.ids rows.states rows.torn column).answer ≡ ListIs (length history))
       × (take (length history) (suggested_written rows.ids rows.states rows.torn column).column ≡ history)
   -- `verify_oracle` on those rows and that history, with nothing dispatched and no bank count, gives the run's line of `judge`
-  pub judged : judged_line place (number_of (verified rows.ids rows.states rows.torn history [] Absent)) history ≡ judge
+  pub judged : judged_line place (number_in number_of (verified rows.ids rows.states rows.torn history [] Absent)) history ≡ judge
 
 -- the run at a place: `point_at` on the fault-free run's operations says what is armed, and the run with it is printed so
 pub record PlacePrinted (h : Head) (rows : ℕ) (k : Columns) (o : OpenLeft) (operations place : ℕ) (sweep judge : List ℕ) : Type 0 where

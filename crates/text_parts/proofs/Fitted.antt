@@ -15,14 +15,14 @@ use lib.Dec.{leb}
 use borrow.Author.Tests.{leb-true, leb-false, le-leb, lt-leb, lt-ltb, le-ltb, ne_eqb}
 use Rattle.basics.specs.Tests.{unless, first_of}
 use Rattle.basics.specs.Parts.{overlaid}
-use Rattle.lines.specs.declared.Line.TheVariants.{NotWritten}
+use Rattle.std.specs.Prelude.{Err as NotWritten}
 use Rattle.lines.specs.Answers.{put}
 use Rattle.pieces.proofs.Cursors.{overlaid-none, length-overlaid, overlaid-more}
 use Rattle.text_of_runs.specs.Claim.{run_lines}
 use Rattle.text_of_runs.proofs.Short.{put-past}
-use Rattle.run_lines.specs.RunLine.{RunPut, line_as}
-use Rattle.text_parts.specs.declared.Part.{Part}
-use Rattle.text_parts.specs.declared.Part.TheVariants.{Lines, NoRoom}
+use Rattle.lines.specs.Answers.{Put}
+use Rattle.text_parts.specs.Parts.{Part}
+use Rattle.text_parts.specs.Parts.{Lines, NoRoom}
 use Rattle.text_parts.specs.Parts.{fitting, PartLeft, part_left, part_of}
 use Rattle.text_parts.specs.Inner.{FillLeft, filled_at, fill_runs, part_reply}
 use Rattle.text_parts.proofs.Fills.{fill_on, fill_stop}
@@ -107,8 +107,8 @@ reached-more place at out x fit h =
     let q : at + length x + length (flatten fit) ≡ at + length (x ++ flatten fit) = omega arith in
     λ i. filled_at (p i) (q i) (overlaid-more out at x (flatten fit) h i)
 
-module _ (w : (place at : ℕ) → List ℕ → RunPut) (line : ℕ → List ℕ) (runs : ℕ)
-    (agree : (place at : ℕ) (out : List ℕ) → place < runs → w place at out ≡ line_as (put 0 (line place) at out)) where
+module _ (w : (place at : ℕ) → List ℕ → Put) (line : ℕ → List ℕ) (runs : ℕ)
+    (agree : (place at : ℕ) (out : List ℕ) → place < runs → w place at out ≡ put 0 (line place) at out) where
   pub fills : (n place at : ℕ) (out : List ℕ) → place + n ≤ runs → at ≤ length out
       → fill_runs w n place at out ≡ reached place at out (fitting (length out - at) (run_lines line n place))
   unfolding fill_runs run_lines fitting
@@ -139,13 +139,13 @@ module _ (w : (place at : ℕ) → List ℕ → RunPut) (line : ℕ → List ℕ
           let k : length (overlaid out at (line place)) ≡ length out = length-overlaid out at (line place) f in
           let r : length (overlaid out at (line place)) - (at + length (line place)) ≡ length out - at - length (line place) = omega arith in
           let m : at + length (line place) ≤ length (overlaid out at (line place)) = omega arith in
-          fill_on w n place at (at + length (line place)) out (overlaid out at (line place)) (agree place at out below ∙ ap line_as (put-past (line place) at out f))
+          fill_on w n place at (at + length (line place)) out (overlaid out at (line place)) (agree place at out below ∙ put-past (line place) at out f)
           ∙ ih m
           ∙ ap (λ (j : ℕ). reached (suc place) (at + length (line place)) (overlaid out at (line place)) (fitting j (run_lines line n (suc place)))) r
           ∙ reached-more place at out (line place) (fitting (length out - at - length (line place)) (run_lines line n (suc place))) f
           ∙ ap (reached place at out) (sym (fit-first (line place) (run_lines line n (suc place)) (length out - at) l))
       go false e ih =
           let l = leb-false (length (line place)) (length out - at) e in
-          fill_stop w n place at 13 out out (agree place at out below ∙ ap line_as (put-none (line place) at out (past l)))
+          fill_stop w n place at 13 out out (agree place at out below ∙ put-none (line place) at out (past l))
           ∙ reached-none place at out
           ∙ ap (reached place at out) (sym (fit_none (line place) (run_lines line n (suc place)) (length out - at) l))

@@ -1,7 +1,7 @@
 -- Each function's ways out.
---     first-none, first_some                  the part that begins with the count of runs
+--     first-is, first_some                    the part that begins with the count of runs
 --     past_all, from_first, from-run          the part of a sweep, past its end, from the count or from a run on
---     refused-past, refused_none, refused-some  the part of a refused script
+--     refused-past, refused-is, refused-some  the part of a refused script
 --     open-part, open-zeros                   the fault-free run, on a part of the media and on columns of zeros
 --     recorded-is                             the runs, by the operations recorded
 --     opened-refused, opened-runs, swept-is   a sweep that is refused, or its runs
@@ -17,70 +17,68 @@ use lib.ListN.{length, take, drop, replicate}
 use lib.Dec.{leb}
 use borrow.Author.Tests.{lt-ltb, le-ltb, eq-eqb, ne_eqb, leb-true, leb-false}
 use Rattle.basics.proofs.Lists.{take-few}
+use Rattle.refusals.specs.declared.Refusal.{Refusal}
+use Rattle.refusals.specs.Numbers.{number_of}
 use Rattle.script.specs.declared.Head.{Head}
-use Rattle.script.specs.declared.ReadScript.{ReadScript}
-use Rattle.script.specs.declared.ReadScript.TheVariants.{Read, Refused}
+use Rattle.script.specs.declared.Script.{Script}
+use Rattle.script.specs.declared.ScriptError.{ScriptError}
+use Rattle.script.specs.Lent.{reply_of}
 use Rattle.script.specs.Columns.{Columns, columns, After, after, read_into}
-use Rattle.lines.specs.declared.Line.{Line}
-use Rattle.lines.specs.declared.Line.TheVariants.{Past, NotWritten}
+use Rattle.lines.specs.Answers.{Line}
+use Rattle.std.specs.Prelude.{Result, Ok, Err, Ok as Past, Err as NotWritten}
 use Rattle.lines.specs.Lines.{runs_line, refused_text}
 use Rattle.lines.specs.Answers.{Put, put}
-use Rattle.harness.specs.declared.Opened.{Opened}
-use Rattle.harness.specs.declared.Opened.TheVariants.{Runs, NotSwept}
+use Rattle.harness.specs.declared.Sweep.{Sweep}
+use Rattle.harness.specs.Opening.{Opened, opened_as}
 use Rattle.harness_runs.specs.Running.{zeros, cells}
 use Rattle.harness.specs.Opening.{open_left, open_call, open_on}
-use Rattle.run_lines.specs.RunLine.{RunPut, run_line_call}
-use Rattle.run_lines.proofs.Parts.{lined}
+use Rattle.lines.specs.Answers.{Put}
+use Rattle.run_lines.specs.RunLine.{run_put, run_line_call}
 use Rattle.text_of_runs.proofs.Short.{put-past}
-use Rattle.text_parts.specs.declared.Part.{Part}
-use Rattle.text_parts.specs.declared.Part.TheVariants.{Lines, NoRoom}
-use Rattle.text_parts.specs.declared.Filled.{Filled}
+use Rattle.text_parts.specs.Parts.{Part}
+use Rattle.text_parts.specs.Parts.{Lines, NoRoom}
 use Rattle.text_parts.specs.Parts.{PartLeft, part_left, fitting, part_of}
-use Rattle.text_parts.specs.Inner.{FillLeft, fill_left, fill_runs, part_reply, part_after, part_first, first_part, runs_part, runs_of, refused_part, OpenEnd, open_end, end_of_open, recorded_part, opened_part, swept_part, fresh_columns, read_part, part_call}
+use Rattle.text_parts.specs.Inner.{filled_at, fill_runs, part_reply, part_after, part_first, first_part, runs_part, runs_of, refused_part, OpenEnd, open_end, end_of_open, recorded_part, opened_part, swept_part, read_part, part_call}
 use Rattle.text_parts.proofs.Fitted.{none-fits, put-none, over-front, fit-first}
 
 -- ---- the count of runs, and the runs after it
 
-module _ (w : (place at : ℕ) → List ℕ → RunPut) (runs : ℕ) (out : List ℕ) where
-  module _ (r : Line) (new : List ℕ) (p : lined r new ≡ put 0 (runs_line runs) 0 out) where
-    first-is : part_first w runs r new ≡ first_part w runs out
-    unfolding first_part
-    first-is = ap (λ (x : Put). part_first w runs x.reply x.out) p
+module _ (w : (place at : ℕ) → List ℕ → Put) (runs : ℕ) (out : List ℕ) where
+  pub first-is : (p : Put) → p ≡ put 0 (runs_line runs) 0 out → part_first w runs p.reply p.out ≡ first_part w runs out
+  unfolding first_part
+  first-is p e = ap (λ (x : Put). part_first w runs x.reply x.out) e
 
-    pub first-none : (number : ℕ) → r ≡ NotWritten number → part_left (NoRoom number) new ≡ first_part w runs out
-    first-none number q = ap (λ (x : Line). part_first w runs x new) (sym q) ∙ first-is
-
-    pub first_some : (next : ℕ) → r ≡ Past next → (f : Filled) (left : List ℕ) → fill_left f left ≡ fill_runs w (runs - 0) 0 next new → (reply : Part)
-        → reply ≡ part_reply (f.place + 1) f.at (runs - f.place) → part_left reply left ≡ first_part w runs out
-    first_some next q f left e reply z =
-        let n : f.place + 1 ≡ f.place + 1 - 0 = omega arith in
-        let m : runs - 0 ≡ runs = omega arith in
-        ap (λ (x : Part). part_left x left) (z ∙ ap (λ (j : ℕ). part_reply j f.at (runs - f.place)) n)
-        ∙ ap (part_after 0 runs) (e ∙ ap (λ (j : ℕ). fill_runs w j 0 next new) m)
-        ∙ ap (λ (x : Line). part_first w runs x new) (sym q)
-        ∙ first-is
+  pub first_some : (next : ℕ) (new : List ℕ) → run_put (Past next) new ≡ put 0 (runs_line runs) 0 out → (place at : ℕ) (left : List ℕ)
+      → filled_at place at left ≡ fill_runs w (runs - 0) 0 next new → (reply : Part) → reply ≡ part_reply (place + 1) at (runs - place)
+      → part_left reply left ≡ first_part w runs out
+  first_some next new p place at left e reply z =
+      let n : place + 1 ≡ place + 1 - 0 = omega arith in
+      let m : runs - 0 ≡ runs = omega arith in
+      ap (λ (x : Part). part_left x left) (z ∙ ap (λ (j : ℕ). part_reply j at (runs - place)) n)
+      ∙ ap (part_after 0 runs) (e ∙ ap (λ (j : ℕ). fill_runs w j 0 next new) m)
+      ∙ first-is (run_put (Past next) new) p
 
   -- ---- from any line on
 
   module _ (from : ℕ) where
-    pub past_all : runs < from → part_left (Lines 0 0 0) out ≡ runs_part w runs from out
+    pub past_all : runs < from → (reply : Part) → reply ≡ Lines 0 0 0 → part_left reply out ≡ runs_part w runs from out
     unfolding runs_part
-    past_all h = rw (lt-ltb runs from h)
+    past_all h reply q = rw (lt-ltb runs from h) (ap (λ (x : Part). part_left x out) q)
 
     module _ (h : from ≤ runs) where
       pub from_first : from ≡ 0 → (reply : Part) (new : List ℕ) → part_left reply new ≡ first_part w runs out → part_left reply new ≡ runs_part w runs from out
       unfolding runs_part
       from_first z reply new p = rw (le-ltb runs from h, eq-eqb from 0 z) p
 
-      pub from-run : (from ≡ 0 → ⊥) → (f : Filled) (left : List ℕ) → fill_left f left ≡ fill_runs w (runs - (from - 1)) (from - 1) 0 out → (reply : Part)
-          → reply ≡ part_reply (f.place + 1 - from) f.at (runs - f.place) → part_left reply left ≡ runs_part w runs from out
+      pub from-run : (from ≡ 0 → ⊥) → (place at : ℕ) (left : List ℕ) → filled_at place at left ≡ fill_runs w (runs - (from - 1)) (from - 1) 0 out → (reply : Part)
+          → reply ≡ part_reply (place + 1 - from) at (runs - place) → part_left reply left ≡ runs_part w runs from out
       unfolding runs_part
-      from-run z f left e reply q = rw (le-ltb runs from h, ne_eqb from 0 z) (ap (λ (x : Part). part_left x left) q ∙ ap (part_after from runs) e)
+      from-run z place at left e reply q = rw (le-ltb runs from h, ne_eqb from 0 z) (ap (λ (x : Part). part_left x left) q ∙ ap (part_after from runs) e)
 
 -- ---- a refused script
 
 -- one line, by what its function answers
-abbrev part_line : Line → (out : List ℕ) → PartLeft
+abbrev pub part_line : Line → (out : List ℕ) → PartLeft
 part_line (Past next) out = part_left (Lines 1 next 0) out
 part_line (NotWritten number) out = part_left (NoRoom number) out
 
@@ -107,23 +105,21 @@ drop-none zero = refl
 drop-none (suc n) = refl
 
 module _ (number line from : ℕ) (out : List ℕ) where
-  pub refused-past : (from ≡ 0 → ⊥) → part_left (Lines 0 0 0) out ≡ refused_part number line from out
+  pub refused-past : (from ≡ 0 → ⊥) → (reply : Part) → reply ≡ Lines 0 0 0 → part_left reply out ≡ refused_part number line from out
   unfolding part_of fitting flatten
-  refused-past z = go from z
+  refused-past z reply q = ap (λ (x : Part). part_left x out) q ∙ go from z
     where
       go : (n : ℕ) → (n ≡ 0 → ⊥) → part_left (Lines 0 0 0) out ≡ refused_part number line n out
       go zero z = absurd (z refl)
       go (suc n) z = rw (drop-none n)
 
-  module _ (z : from ≡ 0) (r : Line) (new : List ℕ) (p : lined r new ≡ put 0 (refused_text number line) 0 out) where
-    refused-is : part_line r new ≡ refused_part number line from out
-    refused-is = ap (λ (x : Put). part_line x.reply x.out) p ∙ line-cases (refused_text number line) out ∙ ap (λ (n : ℕ). refused_part number line n out) (sym z)
+  module _ (z : from ≡ 0) where
+    pub refused-is : (p : Put) → p ≡ put 0 (refused_text number line) 0 out → part_line p.reply p.out ≡ refused_part number line from out
+    refused-is p e = ap (λ (x : Put). part_line x.reply x.out) e ∙ line-cases (refused_text number line) out ∙ ap (λ (n : ℕ). refused_part number line n out) (sym z)
 
-    pub refused_none : (short : ℕ) → r ≡ NotWritten short → part_left (NoRoom short) new ≡ refused_part number line from out
-    refused_none short q = ap (λ (x : Line). part_line x new) (sym q) ∙ refused-is
-
-    pub refused-some : (next : ℕ) → r ≡ Past next → part_left (Lines 1 next 0) new ≡ refused_part number line from out
-    refused-some next q = ap (λ (x : Line). part_line x new) (sym q) ∙ refused-is
+    pub refused-some : (next : ℕ) (new : List ℕ) → run_put (Past next) new ≡ put 0 (refused_text number line) 0 out → (reply : Part) → reply ≡ Lines 1 next 0
+        → part_left reply new ≡ refused_part number line from out
+    refused-some next new p reply q = ap (λ (x : Part). part_left x new) q ∙ refused-is (run_put (Past next) new) p
 
 -- ---- the fault-free run
 
@@ -157,32 +153,34 @@ module _ (judged : Bool) (from : ℕ) (h : Head) (rows : ℕ) (k : Columns) (out
       let el : take m ls ≡ take n ls = take-few ls 1024 n m ll z in
       p ∙ λ i. runs_part (λ (place at : ℕ) (o : List ℕ). run_line_call judged place h rows k (ek i) (eo i) (el i) at o) (c i) from out
 
-  module _ (r : Opened) (ks os ls : List ℕ) where
-    pub opened-refused : (number : ℕ) → r ≡ NotSwept number → (reply : Part) (new : List ℕ) → part_left reply new ≡ refused_part number 0 from out
-        → part_left reply new ≡ opened_part judged from h rows k r ks os ls out
-    opened-refused number q reply new p = p ∙ ap (λ (x : Opened). opened_part judged from h rows k x ks os ls out) (sym q)
+  module _ (ks os ls : List ℕ) where
+    pub opened-refused : (q : Result Sweep Refusal) (e : Refusal) → q ≡ Err e → (number : ℕ) → number ≡ number_of e → (p : PartLeft)
+        → p ≡ refused_part number 0 from out → p ≡ opened_part judged from h rows k (opened_as q) ks os ls out
+    opened-refused q e z number n p x =
+        x ∙ ap (λ (m : ℕ). refused_part m 0 from out) n ∙ ap (λ (y : Result Sweep Refusal). opened_part judged from h rows k (opened_as y) ks os ls out) (sym z)
 
-    pub opened-runs : (n points : ℕ) → r ≡ Runs n points → (reply : Part) (new : List ℕ) → part_left reply new ≡ recorded_part judged from h rows k n points ks os ls out
-        → part_left reply new ≡ opened_part judged from h rows k r ks os ls out
-    opened-runs n points q reply new p = p ∙ ap (λ (x : Opened). opened_part judged from h rows k x ks os ls out) (sym q)
+    pub opened-runs : (q : Result Sweep Refusal) (s : Sweep) → q ≡ Ok s → (p : PartLeft) → p ≡ recorded_part judged from h rows k s.operations s.points ks os ls out
+        → p ≡ opened_part judged from h rows k (opened_as q) ks os ls out
+    opened-runs q s z p x = x ∙ ap (λ (y : Result Sweep Refusal). opened_part judged from h rows k (opened_as y) ks os ls out) (sym z)
 
-    pub swept-is : (let column : List ℕ = replicate 1024 0 in open_end r ks os ls ≡ end_of_open (open_call h rows k (cells h) (cells h) column column column))
-        → (reply : Part) (new : List ℕ) → part_left reply new ≡ opened_part judged from h rows k r ks os ls out → part_left reply new ≡ swept_part judged from h rows k out
+    pub swept-is : (r : Opened) → (let column : List ℕ = replicate 1024 0 in open_end r ks os ls ≡ end_of_open (open_call h rows k (cells h) (cells h) column column column))
+        → opened_part judged from h rows k r ks os ls out ≡ swept_part judged from h rows k out
     unfolding swept_part open_on zeros
-    swept-is e reply new p = p ∙ ap (λ (x : OpenEnd). opened_part judged from h rows k x.reply x.kinds x.offsets x.lens out) e
+    swept-is r e = ap (λ (x : OpenEnd). opened_part judged from h rows k x.reply x.kinds x.offsets x.lens out) e
 
 -- ---- a text
 
-module _ (judged : Bool) (text : List ℕ) (from : ℕ) (out : List ℕ) (r : ReadScript) (k : Columns)
-    (e : let column : List ℕ = replicate 32768 0 in after r k ≡ read_into text (columns column column column column column column)) where
-  read_is : read_part judged from r k out ≡ part_call judged text from out
+module _ (judged : Bool) (text : List ℕ) (from : ℕ) (out : List ℕ) (r : Result Script ScriptError) (k : Columns)
+    (e : let column : List ℕ = replicate 32768 0 in after (reply_of r) k ≡ read_into text (columns column column column column column column)) where
+  read-is : read_part judged from (reply_of r) k out ≡ part_call judged text from out
   unfolding part_call zeros
-  read_is = ap (λ (x : After). read_part judged from x.reply x.columns out) e
+  read-is = ap (λ (x : After). read_part judged from x.reply x.columns out) e
 
-  pub read-refused : (number line : ℕ) → r ≡ Refused number line → (reply : Part) (new : List ℕ) → part_left reply new ≡ refused_part number line from out
-      → part_left reply new ≡ part_call judged text from out
-  read-refused number line q reply new p = p ∙ ap (λ (x : ReadScript). read_part judged from x k out) (sym q) ∙ read_is
+  pub read-refused : (error : ScriptError) → r ≡ Err error → (number : ℕ) → number ≡ number_of error.refusal → (p : PartLeft)
+      → p ≡ refused_part number error.line from out → p ≡ part_call judged text from out
+  read-refused error q number n p x =
+      x ∙ ap (λ (m : ℕ). refused_part m error.line from out) n ∙ ap (λ (y : Result Script ScriptError). read_part judged from (reply_of y) k out) (sym q) ∙ read-is
 
-  pub read-swept : (h : Head) (calls bytes : ℕ) → r ≡ Read h calls bytes → (reply : Part) (new : List ℕ) → part_left reply new ≡ swept_part judged from h calls k out
-      → part_left reply new ≡ part_call judged text from out
-  read-swept h calls bytes q reply new p = p ∙ ap (λ (x : ReadScript). read_part judged from x k out) (sym q) ∙ read_is
+  pub read-swept : (s : Script) → r ≡ Ok s → (c : Columns) → c ≡ k → (p : PartLeft) → p ≡ swept_part judged from s.head s.calls c out → p ≡ part_call judged text from out
+  read-swept s q c z p x =
+      x ∙ ap (λ (y : Columns). swept_part judged from s.head s.calls y out) z ∙ ap (λ (y : Result Script ScriptError). read_part judged from (reply_of y) k out) (sym q) ∙ read-is

@@ -24,16 +24,16 @@ use Rattle.lines.specs.Answers.{Put, put}
 use Rattle.pieces.proofs.Cursors.{length-overlaid, overlaid-more}
 use Rattle.pieces.proofs.Lists.{flatten-append}
 use Rattle.sweeps.specs.Sweep.{sweep_output, judge_output}
-use Rattle.harness.specs.declared.Opened.{Opened}
+use Rattle.harness.specs.Opening.{Opened}
 use Rattle.harness.specs.Opening.{OpenLeft, open_on}
 use Rattle.text_of_runs.specs.Lent.{Sheet}
 use Rattle.text_of_runs.specs.Printout.{sweep_lines, judge_lines}
 use Rattle.text_of_runs.specs.Claim.{run_lines, Outputs, Printed, unread, unswept, swept}
 use Rattle.text_of_runs.proofs.Short.{put-past, runs-short, refused-short}
 use Rattle.text_of_runs.proofs.Whole.{printed}
-use Rattle.run_lines.specs.RunLine.{RunPut, line_as, run_line_call}
+use Rattle.run_lines.specs.RunLine.{run_line_call}
 use Rattle.run_lines.proofs.Whole.{zeros-long, line_at}
-use Rattle.text_parts.specs.declared.Part.{Part}
+use Rattle.text_parts.specs.Parts.{Part}
 use Rattle.text_parts.specs.Parts.{fitting, none_fits, part_left, part_with, part_of, in_turn, Parts, AllParts}
 use Rattle.text_parts.specs.Inner.{fill_runs, part_reply, part_after, part_first, first_part, runs_part, runs_of, recorded_part, opened_part, swept_part, fresh_columns, read_part, part_call}
 use Rattle.text_parts.proofs.Fitted.{fit-first, fit-before, none-fits, part_by, reply-is, put-none, over-front, reached, fills}
@@ -56,8 +56,8 @@ module _ (line : ℕ → List ℕ) where
 
 -- ---- the part of a sweep
 
-module _ (w : (place at : ℕ) → List ℕ → RunPut) (line : ℕ → List ℕ) (runs : ℕ)
-    (agree : (place at : ℕ) (out : List ℕ) → place < runs → w place at out ≡ line_as (put 0 (line place) at out)) where
+module _ (w : (place at : ℕ) → List ℕ → Put) (line : ℕ → List ℕ) (runs : ℕ)
+    (agree : (place at : ℕ) (out : List ℕ) → place < runs → w place at out ≡ put 0 (line place) at out) where
   abbrev rest : List (List ℕ)
   rest = run_lines line runs 0
 
@@ -194,7 +194,7 @@ module _ (judged : Bool) (text : List ℕ) (from : ℕ) (out : List ℕ) where
       ∙ ap (λ (x : Opened). opened_part judged from h rows k x o.kinds o.offsets o.lens out) e
       ∙ ap (λ (ls : List (List ℕ)). part_of (drop from ls) out) (sym (one_line judged text (refused_text number 0) outs))
   by-ways (swept h rows bytes k o operations points sweep judge r small opens sp outs) =
-      let w : ℕ → ℕ → List ℕ → RunPut =
+      let w : ℕ → ℕ → List ℕ → Put =
       λ place at new. run_line_call judged place h rows k (take operations o.kinds) (take operations o.offsets) (take operations o.lens) at new in
       ap (λ (x : After). read_part judged from x.reply x.columns out) r
       ∙ opened-is h rows k o opens

@@ -1,26 +1,36 @@
 -- What the private functions of `src/` answer. No public contract cites these. Definitions only; assumes nothing.
 use Rattle.std.specs.Prelude.{Bool, not, ◌&&◌, cond, List, [], ◌∷◌, ℕ, zero, suc, ◌+◌, ◌-◌, take, drop, eqb, ltb}
 use Rattle.script.specs.declared.Head.{Head}
-use Rattle.script.specs.declared.ReadScript.{ReadScript}
-use Rattle.script.specs.declared.ReadScript.TheVariants.{Read, Refused}
+use Rattle.script.specs.Lent.{columns_seen}
+use Rattle.script.specs.Columns.{ReadScript}
+use Rattle.script.specs.Columns.{Read, Refused}
 use Rattle.script.specs.Columns.{Columns, columns, read_into}
-use Rattle.lines.specs.declared.Line.{Line}
-use Rattle.lines.specs.declared.Line.TheVariants.{Past, NotWritten}
+use Rattle.lines.specs.Answers.{Line}
+use Rattle.std.specs.Prelude.{Ok as Past, Err as NotWritten}
 use Rattle.lines.specs.Lines.{runs_line, refused_text}
 use Rattle.lines.specs.Answers.{put}
-use Rattle.harness.specs.declared.Opened.{Opened}
-use Rattle.harness.specs.declared.Opened.TheVariants.{Runs, NotSwept}
+use Rattle.harness.specs.Opening.{Opened}
+use Rattle.harness.specs.Opening.{Runs, NotSwept}
 use Rattle.harness.specs.Opening.{OpenLeft, open_on}
-use Rattle.run_lines.specs.declared.RunLine.{RunLine}
-use Rattle.run_lines.specs.declared.RunLine.TheVariants.{UpTo, NoLine}
+use Rattle.std.specs.Prelude.{Ok as UpTo, Err as NoLine}
 use Rattle.harness_runs.specs.Running.{zeros}
-use Rattle.run_lines.specs.RunLine.{RunPut, run_line_call}
-use Rattle.text_parts.specs.declared.Part.{Part}
-use Rattle.text_parts.specs.declared.Part.TheVariants.{Lines, NoRoom}
-use Rattle.text_parts.specs.declared.Filled.{Filled}
+use Rattle.lines.specs.Answers.{Put}
+use Rattle.run_lines.specs.RunLine.{run_line_call}
+use Rattle.text_parts.specs.Parts.{Part}
+use Rattle.text_parts.specs.Parts.{Lines, NoRoom}
+use Rattle.text_parts.specs.declared.Opened.{Opened as CodeOpened}
 use Rattle.text_parts.specs.Parts.{PartLeft, part_left, part_of}
 
 -- ---- runs into a buffer
+
+-- what the line of the run at a place is made of
+abbrev pub writer : (judged : Bool) → CodeOpened → (place at : ℕ) → List ℕ → Put
+writer judged o place at out = run_line_call judged place o.head o.rows (columns_seen o.calls) o.ops.kinds.now o.ops.offsets.now o.ops.lens.now at out
+
+-- how far the lines of runs were put: the first run that was not, and the place past the last line
+pub record Filled : Type 0 where
+  pub place : ℕ
+  pub at : ℕ
 
 -- how far the runs were put, and the buffer then
 pub record FillLeft : Type 0 where
@@ -34,12 +44,12 @@ abbrev pub filled_at : (place at : ℕ) → (out : List ℕ) → FillLeft
 filled_at place at out = fill_left (record { place = place; at = at }) out
 
 -- on with the next run, unless the line was refused
-abbrev pub onward : (ℕ → List ℕ → FillLeft) → FillLeft → RunLine → (out : List ℕ) → FillLeft
+abbrev pub onward : (ℕ → List ℕ → FillLeft) → FillLeft → Line → (out : List ℕ) → FillLeft
 onward next stay (UpTo at) out = next at out
 onward next stay (NoLine number) out = stay
 
 -- so many runs from a place on, each by its line's writer
-unfoldable pub fill_runs : ((place at : ℕ) → List ℕ → RunPut) → (n place at : ℕ) → (out : List ℕ) → FillLeft
+unfoldable pub fill_runs : ((place at : ℕ) → List ℕ → Put) → (n place at : ℕ) → (out : List ℕ) → FillLeft
 fill_runs w zero place at out = filled_at place at out
 fill_runs w (suc n) place at out =
     onward (fill_runs w n (suc place)) (filled_at place at (w place at out).out) (w place at out).reply (w place at out).out
@@ -55,15 +65,15 @@ abbrev pub part_after : (from runs : ℕ) → FillLeft → PartLeft
 part_after from runs f = part_left (part_reply (f.reply.place + 1 - from) f.reply.at (runs - f.reply.place)) f.out
 
 -- the count of runs, and on with the runs
-abbrev pub part_first : ((place at : ℕ) → List ℕ → RunPut) → (runs : ℕ) → Line → (out : List ℕ) → PartLeft
+abbrev pub part_first : ((place at : ℕ) → List ℕ → Put) → (runs : ℕ) → Line → (out : List ℕ) → PartLeft
 part_first w runs (Past next) out = part_after 0 runs (fill_runs w runs 0 next out)
 part_first w runs (NotWritten number) out = part_left (NoRoom number) out
 
-unfoldable pub first_part : ((place at : ℕ) → List ℕ → RunPut) → (runs : ℕ) → (out : List ℕ) → PartLeft
+unfoldable pub first_part : ((place at : ℕ) → List ℕ → Put) → (runs : ℕ) → (out : List ℕ) → PartLeft
 first_part w runs out = part_first w runs (put 0 (runs_line runs) 0 out).reply (put 0 (runs_line runs) 0 out).out
 
 -- from the count on, from a run on, or past the last one
-unfoldable pub runs_part : ((place at : ℕ) → List ℕ → RunPut) → (runs from : ℕ) → (out : List ℕ) → PartLeft
+unfoldable pub runs_part : ((place at : ℕ) → List ℕ → Put) → (runs from : ℕ) → (out : List ℕ) → PartLeft
 runs_part w runs from out =
     cond (ltb runs from) (part_left (Lines 0 0 0) out)
     (cond (eqb from 0) (first_part w runs out)

@@ -1,13 +1,25 @@
 -- Document 01, "Scripts and the two programs": what `sweep` and `judge` print, as lines, and the part of them that a buffer has room for.
 -- Definitions only; assumes nothing.
 use Rattle.std.specs.Prelude.{◌≡◌, Bool, false, cond, ℕ, zero, suc, ◌-◌, ◌≤◌, ◌<◌, length, take, drop, leb, ltb}
+use Rattle.std.specs.Prelude.{Result, Ok, Err}
+use Rattle.refusals.specs.declared.Refusal.{Refusal}
+use Rattle.refusals.specs.Numbers.{number_of}
+use Rattle.text_parts.specs.declared.Part.{Part as CodePart}
 use mathlib.Core.List.{List, [], ◌∷◌, ◌++◌, flatten}
 use Rattle.sweeps.specs.Sweep.{sweep_output, judge_output}
 use Rattle.text_of_runs.specs.Printout.{sweep_lines, judge_lines}
-use Rattle.text_parts.specs.declared.Part.{Part}
-use Rattle.text_parts.specs.declared.Part.TheVariants.{Lines, NoRoom}
 
 -- ---- a part of the lines
+
+-- how many lines, how many bytes they are, and how many lines come after them; or the number that refuses a buffer without room
+pub data Part : Type 0 where
+  Lines : (lines bytes left : ℕ) → Part
+  NoRoom : (number : ℕ) → Part
+
+-- the code's answer so
+abbrev pub part_as : Result CodePart Refusal → Part
+part_as (Ok p) = Lines p.lines p.bytes p.left
+part_as (Err e) = NoRoom (number_of e)
 
 -- the first lines, as many as there is room for
 unfoldable pub fitting : (room : ℕ) → List (List ℕ) → List (List ℕ)

@@ -2,7 +2,7 @@
 --     call-alike       any call, refused or taken
 -- Assumes nothing.
 use mathlib.Core.Path.{◌≡◌, refl, sym, ap, ◌∙◌, subst}
-use mathlib.Core.Bool.{true, false, true≢false}
+use mathlib.Core.Bool.{false, true≢false}
 use mathlib.Core.List.{List, [], ◌∷◌, ◌++◌}
 use Prim.Native.Nat.{ℕ, zero, suc, ◌+◌, ◌≤◌, ◌<◌, ◌^◌}
 use native.Mathlib.Nat.{suc-ne-zero}
@@ -19,11 +19,10 @@ use Rattle.storage.proofs.Nesting.{legal}
 use Rattle.landing.specs.declared.Stop.{Stop}
 use Rattle.landing.specs.Ending.{stop_number}
 use Rattle.session.specs.declared.Told.{Told}
-use Rattle.session.specs.declared.Armed.{Armed}
-use Rattle.session.specs.declared.Armed.TheVariants.{Nothing, At}
+use Rattle.std.specs.Prelude.{None as Nothing, Some as At}
 use Rattle.session.specs.Log.{Marks, Mark, mark_of, marked}
 use Rattle.session.specs.Tests.{size_test, log_test, marks_test, marks_length_test, marks_number, operation_test, mark_test}
-use Rattle.session.specs.Armed.{armed_on, is_armed}
+use Rattle.session.specs.Armed.{Armed, armed_on, is_armed}
 use Rattle.session.specs.Barrier.{barrier_number, barrier_test}
 use Rattle.session.specs.Marks.{noted_test, noting, marked_from, noted_by}
 use Rattle.session.proofs.Refusals.{operation-room}

@@ -1,9 +1,8 @@
 -- Demand 3, whole: the plain run's claims, carried over to the session by theorem 1. Assumes nothing.
 use mathlib.Core.List.{List}
 use Rattle.session.specs.declared.Told.{Told}
-use Rattle.session.specs.declared.Armed.{Armed}
-use Rattle.session.specs.declared.Armed.TheVariants.{Nothing, At}
-use Rattle.session.specs.Armed.{cut_by}
+use Rattle.std.specs.Prelude.{None as Nothing, Some as At}
+use Rattle.session.specs.Armed.{Armed, cut_by}
 use Rattle.plain.specs.Plain.{Call}
 use Rattle.plain.specs.Claims.{Claims}
 use Rattle.plain.proofs.Theorems.{claims}

@@ -8,7 +8,7 @@ use mathlib.Core.Path.{◌≡◌, refl, sym, ◌∙◌}
 use mathlib.Core.Logic.{◌⊎◌, inl, inr}
 use mathlib.Core.Bool.{Bool, true, false, cond, ◌&&◌, true≢false}
 use mathlib.Core.List.{List, [], ◌∷◌, ◌++◌}
-use Prim.Native.Nat.{ℕ, suc, ◌+◌, ◌-◌, ◌≤◌}
+use Prim.Native.Nat.{ℕ, suc, ◌+◌, ◌≤◌}
 use native.Mathlib.Omega.{arith}
 use lib.ListN.{length, drop, drop_of_length-le}
 use lib.Dec.{eqb}
@@ -16,9 +16,8 @@ use borrow.Author.Tests.{eqb-true}
 use Rattle.basics.specs.Parts.{part}
 use Rattle.device.specs.Media.{any_pair, unequal}
 use Rattle.inject.specs.declared.Injection.{Injection}
-use Rattle.session.specs.declared.Armed.{Armed}
-use Rattle.session.specs.declared.Armed.TheVariants.{Nothing, At}
-use Rattle.session.specs.Armed.{armed_on, is_armed}
+use Rattle.std.specs.Prelude.{None as Nothing, Some as At}
+use Rattle.session.specs.Armed.{Armed, armed_on, is_armed}
 use Rattle.plain.specs.Plain.{Op}
 use Rattle.plain.specs.Ledger.{withheld}
 use Rattle.threaded.proofs.Cells.{drop-part}

@@ -22,7 +22,7 @@ use Rattle.session.specs.declared.Told.{Told}
 use Rattle.session.specs.declared.Counters.{Counters}
 use Rattle.session.specs.Log.{Log, Marks}
 use Rattle.session.specs.Tests.{size_test, log_uneven_of, marks_uneven_of, log_short, marks_short, log_length_test, log_test, marks_length_test, marks_test, start_number, start_test}
-use Rattle.session.specs.declared.Started.TheVariants
+use Rattle.std.specs.Prelude.{Ok}
 use Rattle.session.specs.Start.{fresh, opened, started}
 use Rattle.session.proofs.Refusals.{sizes-fit}
 use Rattle.records.specs.Records.{Label, begin, end, RecordMark, ledger_by}
@@ -249,7 +249,7 @@ same t s xs f =
 
 -- a start that is not refused leaves a fresh session, on a new device's media
 pub start-fresh : (t : Told) (media copy : List ℕ) (l : Log) (m : Marks) → start_test t.geometry (length media) (length copy) l m ≡ 0
-    → (started t media (length copy) l m ≡ opened (TheVariants.Fresh fresh) (new_media (length media)))
+    → (started t media (length copy) l m ≡ opened (Ok fresh) (new_media (length media)))
     × Fresh t (record { counters = fresh; media = new_media (length media); copy = copy; log = l; marks = m })
 unfolding started
 start-fresh t media copy l m e = (

@@ -24,15 +24,13 @@ use Rattle.device.proofs.Programming.{length-programmed, programmed-in}
 use Rattle.device.proofs.Erasing.{length-erased, erased-in}
 use Rattle.landing.specs.declared.Stop.{Stop}
 use Rattle.landing.specs.declared.Stop.TheVariants.{Running}
-use Rattle.landing.specs.declared.Ending.{Ending}
-use Rattle.landing.specs.Ending.{ending_of}
+use Rattle.landing.specs.Ending.{Ending, ending_of}
 use Rattle.landing.proofs.Bounds.{program-landed-le, erase-landed-le}
 use Rattle.session.specs.declared.Told.{Told}
-use Rattle.session.specs.declared.Armed.{Armed}
-use Rattle.session.specs.declared.Armed.TheVariants.{Nothing, At}
+use Rattle.std.specs.Prelude.{None as Nothing, Some as At}
 use Rattle.session.specs.declared.Entry.{Entry}
 use Rattle.session.specs.Log.{logged}
-use Rattle.session.specs.Armed.{armed_on, program_lands, erase_lands, barrier_ran, ended_by, next_count, write_reply}
+use Rattle.session.specs.Armed.{Armed, armed_on, program_lands, erase_lands, barrier_ran, ended_by, next_count, write_reply}
 use Rattle.session.specs.Barrier.{barrier_reply, barrier_entry, ordered}
 use Rattle.session_erase.specs.Erase.{erase_plan, erase_landing, erase_entry, erase_taken}
 use Rattle.session_program.specs.Program.{program_plan, program_landing, program_entry, program_taken}

@@ -2,12 +2,11 @@
 -- calls, uncut or cut once at any index with any progress. What the words mean: `plain` specs/Plain has the plain run, specs/Ledger its
 -- ledger, specs/Claims what 2 to 4 say of a ledger; `Threaded` and `Claim` here have the list of calls through the session. The proof is
 -- `demand-3` in proofs/Demand.antt. Definitions only; assumes nothing.
-use Rattle.std.specs.Prelude.{List, ℕ, ◌<◌}
+use Rattle.std.specs.Prelude.{None as Nothing, Some as At, List, ◌<◌}
 use Rattle.inject.specs.declared.Injection.{Injection}
 use Rattle.model.specs.Ledger.{Entry}
 use Rattle.id_columns.specs.Ids.{Distinct}
 use Rattle.session.specs.declared.Told.{Told}
-use Rattle.session.specs.declared.Armed.TheVariants.{Nothing, At}
 use Rattle.session.specs.Armed.{cut_by}
 use Rattle.plain.specs.Plain.{Call}
 use Rattle.plain.specs.Ledger.{records, begun}

@@ -1,13 +1,20 @@
 -- `armed_runs::point_at` meets its contract: nothing in run 0, then the crash point before its place. Assumes nothing.
-use Rattle.armed_runs.proofs.Places.{place-first, place_found, place_none}
+use Rattle.std.proofs.Common.{rules}
+use Rattle.armed_runs.proofs.Places.{place-first, place_found}
 use Rattle.armed_runs.proofs.point_at.Goals as goal
+
+pub returns-in_err-injection_count : goal.returns-in_err-injection_count
+returns-in_err-injection_count c =
+    let t = place-first c.args.place c.args.geometry c.args.ops.now.kinds.now c.args.ops.now.offsets.now c.args.ops.now.lens.now c.if-place-eq0.true _ c.in_err-injection_count.ensures in search rules
 
 pub returns-then-place-eq0 : goal.returns-then-place-eq0
 returns-then-place-eq0 c =
-    place-first c.args.place c.args.geometry c.args.kinds.now c.args.offsets.now c.args.lens.now c.if-place-eq0.true _ c.injection_count-counted.ensures _ c.free_run.ensures
+    place-first c.args.place c.args.geometry c.args.ops.now.kinds.now c.args.ops.now.offsets.now c.args.ops.now.lens.now c.if-place-eq0.true _ c.in_ok-injection_count.ensures
 
-pub returns-in-Point : goal.returns-in-Point
-returns-in-Point c = place_found _ _ _ _ _ c.if-place-eq0.false _ c.injection_at-found.ensures _ c.in-Point.is
+pub returns-in_err-injection : goal.returns-in_err-injection
+returns-in_err-injection c =
+    let t = place_found c.args.place c.args.geometry c.args.ops.now.kinds.now c.args.ops.now.offsets.now c.args.ops.now.lens.now c.if-place-eq0.false _ c.in_err-injection.ensures in search rules
 
-pub returns-in-NotFound : goal.returns-in-NotFound
-returns-in-NotFound c = place_none _ _ _ _ _ c.if-place-eq0.false _ c.injection_at-found.ensures _ c.in-NotFound.is
+pub returns : goal.returns
+returns c =
+    place_found c.args.place c.args.geometry c.args.ops.now.kinds.now c.args.ops.now.offsets.now c.args.ops.now.lens.now c.if-place-eq0.false _ c.in_ok-injection.ensures

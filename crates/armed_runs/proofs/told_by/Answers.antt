@@ -5,4 +5,4 @@ use Rattle.session.specs.Armed.{told_with}
 use Rattle.armed_runs.proofs.told_by.Goals as goal
 
 pub returns : goal.returns
-returns c = c.told_with.ensures ∙ ap (λ (b : OneWayBits). told_with c.args.head.geometry b c.args.armed) c.rule_of-bits.ensures
+returns c = c.told_with.ensures ∙ ap (λ (b : OneWayBits). told_with c.args.head.geometry b c.args.armed) c.rule_of.ensures

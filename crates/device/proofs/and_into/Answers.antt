@@ -20,9 +20,8 @@ loop-i-preserved c =
     let h : i < length cells = omega arith in
     let o : i < length old = omega arith in
     let n : i < length new = rw (length-anded cells src c.requires.0) h in (
-      omega arith,
-      simp length-set c.loop-i.invariant.1,
-      over-more new old c.loop-i.out i (bit_and (get_or cells i 0) (get_or src i 0)) 0 n o c.loop-i.invariant.2 (sym (get_or-anded cells src i h k)),
+      simp length-set c.loop-i.invariant.0,
+      over-more new old c.loop-i.out i (bit_and (get_or cells i 0) (get_or src i 0)) 0 n o c.loop-i.invariant.1 (sym (get_or-anded cells src i h k)),
     )
 
 pub returns : goal.returns
@@ -31,4 +30,4 @@ returns c =
     let src = c.args.src.now in
     let old = c.args.out.now in
     let l : length (anded cells src) ≡ length cells = length-anded cells src c.requires.0 in
-    c.loop-i.invariant.2 ∙ over-all (anded cells src) old c.loop-i.i (omega arith) (omega arith)
+    c.loop-i.invariant.1 ∙ over-all (anded cells src) old c.loop-i.i (omega arith) (omega arith)

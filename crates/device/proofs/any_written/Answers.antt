@@ -1,31 +1,26 @@
 -- `device::any_written` meets its contract: `found` says whether one of the cells passed is not erased. Assumes nothing.
-use mathlib.Core.Path.{◌≡◌, sym, ap, ◌∙◌}
-use mathlib.Core.Bool.{not}
+use mathlib.Core.Path.{◌≡◌, sym, ap₂, ◌∙◌}
+use mathlib.Core.Bool.{Bool, ◌||◌}
 use Prim.Native.Nat.{ℕ, ◌<◌}
-use native.Mathlib.Omega.{arith}
 use lib.ListN.{length, get_or, replicate, length-replicate, get_or-replicate}
 use borrow.Author.Rules.{rules}
-use borrow.Author.Tests.{eq-eqb, ne_eqb}
 use Rattle.device.specs.Media.{ff, any_pair, unequal}
-use Rattle.device.proofs.Pairs.{any-yes, any-no}
+use Rattle.device.proofs.Pairs.{any-more, any-all}
 use Rattle.device.proofs.any_written.Goals as goal
-use Rattle.device.proofs.any_written.Goals.{then-cells-i, else-cells-i}
 
-pub loop-i-init : goal.loop-i-init
+pub loop-cell-init : goal.loop-cell-init
 unfolding any_pair
-loop-i-init c = search rules
+loop-cell-init c = search rules
 
-pub loop-i-preserved : goal.loop-i-preserved
-loop-i-preserved c =
+pub loop-cell-preserved : goal.loop-cell-preserved
+loop-cell-preserved c =
     let xs = c.args.cells.now in
     let ys = replicate (length xs) ff in
-    let i = c.loop-i.i in
-    let h : i < length xs = omega arith in
-    let k : i < length ys = rw length-replicate h in
-    let y : get_or ys i 0 ≡ ff = get_or-replicate (length xs) i ff 0 h in (
-      omega arith,
-      elim c.if-cells-i.branch [
-        | then-cells-i w ↦ w.found-is ∙ sym (any-yes unequal xs ys i h k (ap (λ (z : ℕ). unequal (get_or xs i 0) z) y ∙ ap not (ne_eqb _ _ w.if-cells-i.true)))
-        | else-cells-i w ↦ w.found-is ∙ c.loop-i.invariant.1 ∙ sym (any-no unequal xs ys i h k (ap (λ (z : ℕ). unequal (get_or xs i 0) z) y ∙ ap not (eq-eqb _ _ w.if-cells-i.false)))
-      ],
-    )
+    let i = c.loop-cell.cell-index in
+    let h : i < length xs = c.loop-cell-test.true in
+    let y : ff ≡ get_or ys i 0 = sym (get_or-replicate (length xs) i ff 0 h) in
+    ap₂ (λ (b : Bool) (z : ℕ). b || unequal (get_or xs i 0) z) c.loop-cell.invariant y ∙ sym (any-more unequal xs ys i h (rw length-replicate h))
+
+pub returns : goal.returns
+returns c = let xs = c.args.cells.now in
+    c.loop-cell.invariant ∙ any-all unequal xs (replicate (length xs) ff) c.loop-cell.cell-index c.loop-cell-test.false (rw length-replicate c.loop-cell-test.false)

@@ -1,6 +1,8 @@
--- `device_exported::device_program` meets its contract: the number of the reply is the number of the tests. Assumes nothing.
-use Rattle.device_exported.proofs.DeviceNumbers.{program-told}
+-- `device_exported::device_program` meets its contract: the number is the call's reply, and the rest is what it leaves. Assumes nothing.
+use mathlib.Core.Path.{ap, ◌∙◌}
+use Rattle.device_calls.specs.Calls.{Called, program_call}
 use Rattle.device_exported.proofs.device_program.Goals as goal
 
 pub returns : goal.returns
-returns c = program-told _ _ c.units-geometry.ensures _ _ _ _ c.refusal.ensures _ _ c.rule_of-bits.ensures _ _ c.program-reply.ensures
+unfolding program_call
+returns c = rw (← c.units-geometry.ensures, ← c.rule_of-bits.ensures) (c.number_in.ensures ∙ ap (λ (a : Called). a.reply) c.program.ensures, ap (λ (a : Called). a.content) c.program.ensures)

@@ -1,20 +1,19 @@
 -- `device_questions::would_set_a_bit` meets its contract: it asks its loop of the part, if that is in the media. Assumes nothing.
-use Prim.Native.Nat.{◌+◌, ◌≤◌}
-use lib.ListN.{length}
+use mathlib.Core.Path.{ap, ◌∙◌}
+use mathlib.Core.List.{List}
+use Prim.Native.Nat.{ℕ}
 use borrow.Author.Tests.{lt-leb, le-leb}
-use Rattle.device.specs.Media.{would_set_a_bit}
-use Rattle.basics.proofs.Parts.{part-lent}
+use Rattle.device.specs.Media.{any_pair, sets_a_bit, would_set_a_bit}
+use Rattle.device.proofs.Lent.{got-outside, got-part}
 use Rattle.device_questions.proofs.would_set_a_bit.Goals as goal
 
-pub returns-then-wanted_end-media : goal.returns-then-wanted_end-media
+pub returns-in_default : goal.returns-in_default
 unfolding would_set_a_bit
-returns-then-wanted_end-media c = simp (lt-leb _ _ c.if-wanted_end-media.true)
+returns-in_default c = simp (lt-leb _ _ (got-outside c.args.media.now _ _ c.in_default.ensures.lookup.0))
 
 pub returns : goal.returns
 unfolding would_set_a_bit
 returns c =
-    let media = c.args.media.now in
-    let src = c.args.src.now in
-    let offset = c.args.offset in
-    let fits : offset + length src ≤ length media = c.if-wanted_end-media.false in
-    rw (le-leb _ _ fits, ← part-lent media offset (length src) fits) c.sets_a_bit.ensures
+    let got = c.in-Some.ensures.lookup.0 in
+    let is = got-part c.args.media.now _ _ _ got.1 got.2 in
+    rw (le-leb _ _ got.1) (c.sets_a_bit.ensures ∙ ap (λ (l : List ℕ). any_pair sets_a_bit l c.args.src.now) is)

@@ -1,23 +1,20 @@
 -- `digest::digest` meets its contract. After i turns, the digest of what is left, from the hash so far, is the digest of all.
 -- Assumes nothing.
-use Rattle.std.proofs.Common.{ℕ, ◌+◌, drop, sym, refl, ap, ◌∙◌, arith, rules}
+use Rattle.std.proofs.Common.{ℕ, ◌+◌, drop, sym, refl, ap, ◌∙◌}
 use mathlib.Core.List.{foldl}
 use Rattle.basics.proofs.Scans.{at-step}
 use Rattle.digest.specs.Fnv.{mixed, digest_of}
 use Rattle.digest.proofs.digest.Goals as goal
 
-pub loop-i-init : goal.loop-i-init
+pub loop-byte-init : goal.loop-byte-init
 unfolding digest_of
-loop-i-init c = (search rules, refl)
+loop-byte-init c = refl
 
-pub loop-i-preserved : goal.loop-i-preserved
+pub loop-byte-preserved : goal.loop-byte-preserved
 unfolding mixed
-loop-i-preserved c =
-    let i = c.loop-i.i in
-    let hash = c.loop-i.hash in
-    let bytes = c.args.bytes.now in (
-      omega arith,
-      ap (λ (h : ℕ). foldl mixed h (drop (i + 1) bytes)) c.wrapping_mul-hash.ensures
-          ∙ sym (at-step (foldl mixed hash) bytes i 0 (omega arith))
-          ∙ c.loop-i.invariant.1,
-    )
+loop-byte-preserved c =
+    let i = c.loop-byte.byte-index in
+    let bytes = c.args.bytes.now in
+    ap (λ (h : ℕ). foldl mixed h (drop (i + 1) bytes)) c.wrapping_mul-hash.ensures
+    ∙ sym (at-step (foldl mixed c.loop-byte.hash) bytes i 0 c.loop-byte-test.true)
+    ∙ c.loop-byte.invariant

@@ -1,25 +1,18 @@
 -- `first_entries::state` meets its contract: an id's first entry stands where the id first stands in the first column. Assumes nothing.
-use borrow.Author.Rules.{rules}
-use Rattle.first_entries.proofs.Asked.{asked}
+use Rattle.std.proofs.Common.{rules}
+use Rattle.first_entries.proofs.Asked.{asked, state-refused}
 use Rattle.first_entries.proofs.state.Goals as goal
 
-pub refusal-number-requires : goal.refusal-number-requires
-refusal-number-requires c = search (rules, asked)
+pub returns-in_err-refusal : goal.returns-in_err-refusal
+returns-in_err-refusal c =
+    let l = c.args.ledger.now in
+    let t = state-refused l.ids.now l.states.now l.torn.now c.args.id _ c.in_err-refusal.ensures in search rules
 
-pub returns-then-number-ne0 : goal.returns-then-number-ne0
-returns-then-number-ne0 c = search (rules, asked)
+pub returns-in_default : goal.returns-in_default
+returns-in_default c = search (rules, asked)
 
-pub first_place-place-requires : goal.first_place-place-requires
-first_place-place-requires c = search (rules, asked)
+pub bounds-ledger-at : goal.bounds-ledger-at
+bounds-ledger-at c = search (rules, asked)
 
-pub bounds-states-i : goal.bounds-states-i
-bounds-states-i c = search (rules, asked)
-
-pub durability_of-requires : goal.durability_of-requires
-durability_of-requires c = search (rules, asked)
-
-pub returns-in-NoPlace : goal.returns-in-NoPlace
-returns-in-NoPlace c = search (rules, asked)
-
-pub returns-in-PlaceIs : goal.returns-in-PlaceIs
-returns-in-PlaceIs c = search (rules, asked)
+pub returns : goal.returns
+returns c = search (rules, asked)

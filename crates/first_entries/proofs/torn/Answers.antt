@@ -1,31 +1,21 @@
 -- `first_entries::torn` meets its contract: as `state`, and a mark beside the state attempted counts for nothing. Assumes nothing.
-use borrow.Author.Rules.{rules}
-use Rattle.first_entries.proofs.Asked.{asked}
+use Rattle.std.proofs.Common.{rules}
+use Rattle.first_entries.proofs.Asked.{asked, torn-refused}
 use Rattle.first_entries.proofs.torn.Goals as goal
 
-pub refusal-number-requires : goal.refusal-number-requires
-refusal-number-requires c = search (rules, asked)
+pub returns-in_err-refusal : goal.returns-in_err-refusal
+returns-in_err-refusal c =
+    let l = c.args.ledger.now in
+    let t = torn-refused l.ids.now l.states.now l.torn.now c.args.id _ c.in_err-refusal.ensures in search rules
 
-pub returns-then-number-ne0 : goal.returns-then-number-ne0
-returns-then-number-ne0 c = search (rules, asked)
+pub returns-in_default : goal.returns-in_default
+returns-in_default c = search (rules, asked)
 
-pub first_place-place-requires : goal.first_place-place-requires
-first_place-place-requires c = search (rules, asked)
+pub bounds-ledger-at : goal.bounds-ledger-at
+bounds-ledger-at c = search (rules, asked)
 
-pub bounds-states-i : goal.bounds-states-i
-bounds-states-i c = search (rules, asked)
+pub bounds-ledger-at-2 : goal.bounds-ledger-at-2
+bounds-ledger-at-2 c = search (rules, asked)
 
-pub returns-then-states-i-eq0 : goal.returns-then-states-i-eq0
-returns-then-states-i-eq0 c = search (rules, asked)
-
-pub bounds-torn-i : goal.bounds-torn-i
-bounds-torn-i c = search (rules, asked)
-
-pub returns-then-torn-i-eq1 : goal.returns-then-torn-i-eq1
-returns-then-torn-i-eq1 c = search (rules, asked)
-
-pub returns-in-NoPlace : goal.returns-in-NoPlace
-returns-in-NoPlace c = search (rules, asked)
-
-pub returns-else-torn-i-eq1 : goal.returns-else-torn-i-eq1
-returns-else-torn-i-eq1 c = search (rules, asked)
+pub returns : goal.returns
+returns c = search (rules, asked)

@@ -1,19 +1,22 @@
--- `held::next_below` meets its contract: what is skipped from `from` on is what was passed and what is skipped from there. Assumes nothing.
-use native.Mathlib.Omega.{arith}
-use Rattle.held.proofs.Marks.{skip-here, skip-past, skip-out}
+-- `held::next_below` meets its contract: the place that `position` found, counted from the first. Assumes nothing.
+use Prim.Native.Nat.{ℕ, ◌-◌}
+use lib.Dec.{ltb}
+use lib.ListN.{length, take, drop}
+use Rattle.std.proofs.Common.{rules, tests}
+use Rattle.std.proofs.lemmas.Iterator.{YieldsList-from_slice}
+use Rattle.std.proofs.lemmas.Iterator.Search.{position_from_yields_List}
+use Rattle.held.proofs.Marks.{found-some, found-none}
 use Rattle.held.proofs.next_below.Goals as goal
 
-pub returns-then-places-i : goal.returns-then-places-i
-returns-then-places-i c =
-    let e = skip-here c.args.limit c.args.places.now c.loop-i.i c.loop-i-test.true c.if-places-i.true in
-    omega (arith, e, c.loop-i.invariant.1)
-
-pub loop-i-preserved : goal.loop-i-preserved
-loop-i-preserved c =
-    let e = skip-past c.args.limit c.args.places.now c.loop-i.i c.loop-i-test.true c.if-places-i.false in
-    (omega (arith, c.loop-i-test.true), omega (arith, e, c.loop-i.invariant.1))
+pub returns-in_err-ahead : goal.returns-in_err-ahead
+returns-in_err-ahead c =
+    let rest = take (length c.args.places.now - c.args.from) (drop c.args.from c.args.places.now) in
+    let r = position_from_yields_List (λ (p : ℕ). ltb p c.args.limit) _ _ _ c.position.ensures.ran (YieldsList-from_slice rest cc) (λ x b q k. search (rules, tests)) in
+    let t = found-none c.args.limit c.args.from c.args.places.now c.requires _ r c.in_err-ahead.was in
+    search rules
 
 pub returns : goal.returns
 returns c =
-    let e = skip-out c.args.limit c.args.places.now c.loop-i.i c.loop-i-test.false in
-    omega (arith, e, c.loop-i.invariant.1)
+    let rest = take (length c.args.places.now - c.args.from) (drop c.args.from c.args.places.now) in
+    let r = position_from_yields_List (λ (p : ℕ). ltb p c.args.limit) _ _ _ c.position.ensures.ran (YieldsList-from_slice rest cc) (λ x b q k. search (rules, tests)) in
+    found-some c.args.limit c.args.from c.args.places.now c.requires _ r _ c.in_ok-ahead.was

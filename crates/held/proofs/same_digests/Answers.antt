@@ -1,20 +1,18 @@
--- `held::same_digests` meets its contract: what is left decides. Assumes nothing.
-use native.Mathlib.Omega.{arith}
+-- `held::same_digests` meets its contract. Assumes nothing.
+use mathlib.Core.Path.{◌≡◌, ◌∙◌}
+use mathlib.Core.Bool.{Bool}
+use mathlib.Core.List.{List}
+use Prim.Native.Nat.{ℕ}
 use lib.Dec.{eqb}
-use Rattle.held.proofs.Alike.{same-lengths, digests-differ, digests-next, digests-out}
+use lib.ListN.{take}
+use lib.Pointwise.{pointwise}
+use Rattle.held.specs.Held.{same}
+use Rattle.held.proofs.Alike.{same-pointwise}
 use Rattle.held.proofs.same_digests.Goals as goal
 
-pub returns-then-digests-digests2 : goal.returns-then-digests-digests2
-returns-then-digests-digests2 c = same-lengths eqb c.args.digests.now c.args.digests2.now c.if-digests-digests2.true
-
-pub returns-then-digests-i : goal.returns-then-digests-i
-returns-then-digests-i c =
-    digests-differ c.args.digests.now c.args.digests2.now c.if-digests-digests2.false c.loop-i.i c.loop-i.invariant.1 c.loop-i-test.true c.if-digests-i.true
-
-pub loop-i-preserved : goal.loop-i-preserved
-loop-i-preserved c =
-    (omega arith, digests-next c.args.digests.now c.args.digests2.now c.if-digests-digests2.false c.loop-i.i c.loop-i.invariant.1 c.loop-i-test.true c.if-digests-i.false)
+-- two columns as far as each is compared
+cut : (xs ys : List ℕ) (d e m n : ℕ) → d ≡ m → e ≡ n → (r : Bool) → r ≡ pointwise eqb (take d xs) (take e ys) → r ≡ same eqb (take m xs) (take n ys)
+cut xs ys d e m n p q r h = h ∙ same-pointwise eqb (take d xs) (take e ys) ∙ (λ i. same eqb (take (p i) xs) (take (q i) ys))
 
 pub returns : goal.returns
-returns c =
-    digests-out c.args.digests.now c.args.digests2.now c.if-digests-digests2.false c.loop-i.i c.loop-i.invariant.1 c.loop-i-test.false
+returns c = cut _ _ _ _ _ _ c.end_of.ensures c.end_of-2.ensures _ c.eq.ensures

@@ -1,11 +1,10 @@
 -- `held::same_marks` meets its contract: two places, and what is left of both decides. Assumes nothing.
-use Prim.Native.Nat.{◌-◌}
-use lib.ListN.{length}
-use Rattle.held.proofs.Marks.{Walk}
+use Rattle.held.specs.Held.{recorded_in}
+use Rattle.held.proofs.Marks.{Both, left}
 use Rattle.held.proofs.same_marks.Given as goal
 
 abbrev pub invariant-loop-i : goal.invariant-loop-i
-invariant-loop-i l = Walk l.codes l.ids l.places l.limit l.codes2 l.ids2 l.places2 l.limit2 l.i l.j
+invariant-loop-i l = Both (recorded_in l.free) (recorded_in l.run) l.free_end l.end l.i l.j
 
 abbrev pub decreases-loop-i : goal.decreases-loop-i
-decreases-loop-i l = length l.places - l.i
+decreases-loop-i l = left l.free.counters.marks l.i

@@ -3,8 +3,8 @@ use Rattle.hex_pairs.proofs.Runs.{hexs}
 use borrow.Author.Rules.{rules}
 use Rattle.hex_pairs.proofs.all_hex.Goals as goal
 
-pub loop-i-init : goal.loop-i-init
-loop-i-init c = search (rules, hexs)
+pub loop-byte-init : goal.loop-byte-init
+loop-byte-init c = search (rules, hexs)
 
-pub loop-i-preserved : goal.loop-i-preserved
-loop-i-preserved c = search (rules, hexs)
+pub loop-byte-preserved : goal.loop-byte-preserved
+loop-byte-preserved c = search (rules, hexs)

@@ -1,6 +1,7 @@
 -- `hex_pairs::decode` meets its contract. The loop has stored the first `k` of the bytes that are to be stored. Assumes nothing.
-use native.Mathlib.Omega.{arith}
+use Rattle.std.proofs.Common.{refl}
 use borrow.Author.Rules.{rules}
+use native.Mathlib.Omega.{arith}
 use Rattle.hex_pairs.proofs.Bytes.{decode-next, decode-end}
 use Rattle.hex_pairs.proofs.decode.Goals as goal
 
@@ -9,13 +10,11 @@ loop-k-preserved c =
     let l = c.loop-k in
     let a = c.args in (
       search rules,
-      omega arith,
-      search rules,
-      decode-next a.text.now a.from a.out.now _ c.pairs_taken-count.ensures _ _ _ c.loop-k-test.true
-          l.invariant.1 l.invariant.3 _ _ c.hex-high.ensures.is c.hex-low.ensures.is,
+      decode-next a.text.now a.from a.out.now _ (search rules) _ _ _ c.loop-k-test.true refl
+          l.invariant.1 _ _ c.hex-high.ensures.is c.hex-low.ensures.is,
     )
 
 pub returns : goal.returns
 returns c =
     let a = c.args in
-    decode-end a.text.now a.from a.out.now _ c.pairs_taken-count.ensures _ _ c.loop-k.invariant.0 c.loop-k-test.false c.loop-k.invariant.3
+    decode-end a.text.now a.from a.out.now _ (search rules) _ _ (omega arith) c.loop-k-test.false c.loop-k.invariant.1

@@ -3,8 +3,8 @@ use borrow.Author.Rules.{rules}
 use Rattle.hex_pairs.proofs.Runs.{hexs}
 use Rattle.hex_pairs.proofs.hex_end.Goals as goal
 
-pub returns-then-not-digit : goal.returns-then-not-digit
-returns-then-not-digit c = search (rules, hexs)
+pub returns-then-not-is_hex : goal.returns-then-not-is_hex
+returns-then-not-is_hex c = search (rules, hexs)
 
 pub loop-i-preserved : goal.loop-i-preserved
 loop-i-preserved c = search (rules, hexs)

@@ -1,11 +1,8 @@
 -- `hex_pairs::skip_blocks` meets its contract. The loop has gone from `from` to `i` over digits alone. Assumes nothing.
-use Prim.Native.Nat.{◌-◌}
-use lib.ListN.{length}
+use mathlib.Core.Path.{◌≡◌}
+use Prim.Native.Nat.{◌+◌, ◌*◌}
 use Rattle.hex_pairs.specs.Inner.{Skipped}
 use Rattle.hex_pairs.proofs.skip_blocks.Given as goal
 
-abbrev pub invariant-loop-i : goal.invariant-loop-i
-invariant-loop-i l = Skipped l.text l.from l.i
-
-abbrev pub decreases-loop-i : goal.decreases-loop-i
-decreases-loop-i l = length l.text - l.i
+abbrev pub invariant-loop-block : goal.invariant-loop-block
+invariant-loop-block l = (l.i ≡ l.from + l.block-index * 32) × Skipped l.text l.from l.i

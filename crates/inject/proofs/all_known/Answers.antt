@@ -1,21 +1,9 @@
--- `inject::all_known` meets its contract. The invariant: whether all codes are known is whether those from `i` on are. Assumes nothing.
-use mathlib.Core.Path.{refl, sym, ◌∙◌}
-use native.Mathlib.Omega.{arith}
-use borrow.Author.Tests.{lt-ltb, le-ltb}
-use Rattle.inject.proofs.Rests.{known-cons, known-end}
+-- `inject::all_known` meets its contract: `known` is the test of each code. Assumes nothing.
+use Rattle.std.proofs.Common.{ltb, refl, rules}
+use Rattle.std.proofs.lemmas.List.Recursion.{and_is}
+use Rattle.inject.specs.Ops.{known}
 use Rattle.inject.proofs.all_known.Goals as goal
 
-pub loop-i-init : goal.loop-i-init
-loop-i-init c = (omega arith, refl)
-
-pub returns-then-kinds-i-ge3 : goal.returns-then-kinds-i-ge3
-returns-then-kinds-i-ge3 c = sym (sym c.loop-i.invariant.1 ∙ known-cons _ _ c.loop-i-test.true ∙ simp (le-ltb _ _ c.if-kinds-i-ge3.true))
-
-pub loop-i-preserved : goal.loop-i-preserved
-loop-i-preserved c = (
-  omega arith,
-  sym (known-cons _ _ c.loop-i-test.true ∙ simp (lt-ltb _ _ c.if-kinds-i-ge3.false)) ∙ c.loop-i.invariant.1,
-)
-
 pub returns : goal.returns
-returns c = sym (known-end _ _ c.loop-i-test.false) ∙ c.loop-i.invariant.1
+unfolding known
+returns c = and_is known (λ kind. ltb kind 3) refl (λ _ _. refl) c.args.kinds.now 0 _ (search rules) (search rules)

@@ -4,6 +4,3 @@ use Rattle.inject.proofs.seek_lone.Goals as goal
 
 pub returns-then-operations-ne0 : goal.returns-then-operations-ne0
 returns-then-operations-ne0 c = onward-none _ _ c.if-operations-ne0.true
-
-pub returns : goal.returns
-returns c = rw c.if-operations-ne0.false c.seek_one.ensures

@@ -1,20 +1,26 @@
 -- `inject_columns::injections` meets its contract: the number that refuses, too few rows, or every point written from the first row on.
 -- Assumes nothing.
+use Rattle.std.proofs.Common.{rules}
+use Rattle.inject_columns.specs.Answers.{points_in}
 use Rattle.inject_columns.proofs.Listings.{write-refused, write-sound, write-short, write-room, write_done}
 use Rattle.inject_columns.proofs.injections.Goals as goal
 
-pub returns-then-room-points : goal.returns-then-room-points
-returns-then-room-points c = write-short _ _ _ _ _ _ c.count_beside-counted.ensures _ c.in-Points.is c.if-room-points.true
+pub returns-in_err-count-clause-listed : goal.returns-in_err-count-clause-listed
+returns-in_err-count-clause-listed c =
+    let o = c.args.ops.now in
+    let t = write-refused c.args.geometry o.kinds.now o.offsets.now o.lens.now (points_in c.args.points.now) _ c.are_equal.ensures _ c.in_err-count.ensures in search rules
 
-pub write_all-rows-requires : goal.write_all-rows-requires
-write_all-rows-requires c = (
-  write-sound _ _ _ _ _ _ _ c.count_beside-counted.ensures c.in-Points.is,
-  write-room _ _ _ _ _ _ c.count_beside-counted.ensures _ c.in-Points.is c.if-room-points.false,
-)
+pub returns-then-points-count-clause-listed : goal.returns-then-points-count-clause-listed
+returns-then-points-count-clause-listed c =
+    let o = c.args.ops.now in
+    write-short c.args.geometry o.kinds.now o.offsets.now o.lens.now _ _ c.are_equal.ensures _ c.in_ok-count.ensures c.if-points-count.true
 
-pub returns-in-NotCounted : goal.returns-in-NotCounted
-returns-in-NotCounted c = write-refused _ _ _ _ _ _ c.count_beside-counted.ensures _ c.in-NotCounted.is
+pub invariant_of-sequence : goal.invariant_of-sequence
+invariant_of-sequence c =
+    let s = write-sound _ _ _ _ (points_in c.args.points.now) _ c.are_equal.ensures _ c.in_ok-count.ensures in record { sound = (s.offsets-equal, s.lens-equal, s.few) }
 
-pub returns-else-room-points : goal.returns-else-room-points
-returns-else-room-points c =
-    write_done _ _ _ _ _ _ c.count_beside-counted.ensures _ c.in-Points.is c.if-room-points.false _ _ c.write_all-rows.ensures
+pub write_all-requires : goal.write_all-requires
+write_all-requires c = write-room _ _ _ _ _ _ c.are_equal.ensures _ c.in_ok-count.ensures c.if-points-count.false
+
+pub returns-clause-listed : goal.returns-clause-listed
+returns-clause-listed c = write_done _ _ _ _ _ _ c.are_equal.ensures _ c.in_ok-count.ensures c.if-points-count.false _ _ c.write_all.ensures.written

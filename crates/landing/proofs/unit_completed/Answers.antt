@@ -13,10 +13,6 @@ returns-then-unit-eq0 c = simp (eq-eqb _ _ c.if-unit-eq0.true)
 pub overflow_mul-raised : goal.overflow_mul-raised
 overflow_mul-raised c = omega (arith, div-mul-le_self (c.args.landed + (c.args.unit - 1)) c.args.unit)
 
-pub returns-then-raised-len : goal.returns-then-raised-len
+pub returns : goal.returns
 unfolding rounded_up
-returns-then-raised-len c = simp (ne_eqb _ _ c.if-unit-eq0.false) (omega arith)
-
-pub returns-else-raised-len : goal.returns-else-raised-len
-unfolding rounded_up
-returns-else-raised-len c = simp (ne_eqb _ _ c.if-unit-eq0.false) (omega arith)
+returns c = simp (ne_eqb _ _ c.if-unit-eq0.false, c.min.ensures)

@@ -1,66 +1,62 @@
 -- `ledger::ledger` meets its contract: refused, or derived from the operations and marks that count. Assumes nothing.
-use mathlib.Core.Path.{sym}
+use mathlib.Core.Path.{◌≡◌, refl, sym}
+use mathlib.Core.List.{List}
+use Prim.Native.Nat.{ℕ, ◌≤◌}
 use native.Mathlib.Omega.{arith}
-use lib.ListN.{length, length-take}
+use lib.ListN.{length, take, length-take}
 use lib.Seq.{length-take-le}
-use Rattle.session.specs.Log.{Log, log_of, Marks, marks_of}
-use Rattle.ledger.specs.Ledger.{Entered, entered_of}
+use Rattle.std.proofs.Common.{rules}
+use Rattle.session.specs.Lent.{log_seen, marks_seen}
+use Rattle.ledger.specs.Ledger.{entered_in}
 use Rattle.ledger.proofs.Whole.{Sound, refused-call, sound, derived-call}
 use Rattle.ledger.proofs.ledger.Goals as goal
-use Rattle.ledger.proofs.ledger.Goals.{Else-refused-ne0, Start}
+use Rattle.ledger.proofs.ledger.Goals.{In_ok-refusal}
 
--- what was lent
-abbrev log : goal.Start → Log
-log c = log_of c.args.kinds.now c.args.offsets.now c.args.lens.now c.args.digests.now c.args.changed.now c.args.answered.now
-
-abbrev marks : goal.Start → Marks
-marks c = marks_of c.args.codes.now c.args.mark_ids.now c.args.places.now
-
-abbrev entered : goal.Start → Entered
-entered c = entered_of c.args.ids.now c.args.states.now c.args.torn.now
-
--- what is known of it where nothing refuses
-held : (c : goal.Else-refused-ne0) → Sound c.args.counters (length c.args.media.now) (length c.args.copy.now) (log (goal.at.Else-refused-ne0 c).Start) (marks (goal.at.Else-refused-ne0 c).Start) (entered (goal.at.Else-refused-ne0 c).Start)
+-- what is known of what was lent where nothing refuses
+held : (c : goal.In_ok-refusal) → Sound c.args.counters (length c.args.media.now) (length c.args.copy.now) (log_seen c.args.log.now) (marks_seen c.args.marks.now) (entered_in c.args.entries.now)
 held c =
-    sound c.args.told c.args.counters c.args.media.now c.args.copy.now (log (goal.at.Else-refused-ne0 c).Start) (marks (goal.at.Else-refused-ne0 c).Start) (entered (goal.at.Else-refused-ne0 c).Start) _ _ _ c.log_uneven-log.ensures c.marks_uneven-marks.ensures c.entries_uneven-entries.ensures _ _ _ c.length_refusal-lengths.ensures c.code_refusal-contents.ensures
-    c.first_of-refused.ensures c.if-refused-ne0.false
+    let a = c.args in
+    sound a.told a.counters a.media.now a.copy.now (log_seen a.log.now) (marks_seen a.marks.now) (entered_in a.entries.now) _ c.entries_uneven-uneven.ensures c.in_ok-refusal.ensures
 
-pub returns-then-refused-ne0 : goal.returns-then-refused-ne0
-returns-then-refused-ne0 c =
-    refused-call c.args.told c.args.counters c.args.media.now c.args.copy.now (log (goal.at.returns-then-refused-ne0 c).Start) (marks (goal.at.returns-then-refused-ne0 c).Start) (entered (goal.at.returns-then-refused-ne0 c).Start) _ _ _ c.log_uneven-log.ensures c.marks_uneven-marks.ensures c.entries_uneven-entries.ensures _ _ _ c.length_refusal-lengths.ensures c.code_refusal-contents.ensures
-    c.first_of-refused.ensures c.if-refused-ne0.true
+-- so many rows are there of a column that is as long as another
+part : (xs : List ℕ) (n m : ℕ) → length xs ≡ m → n ≤ m → n ≡ length (take n xs)
+part xs n m e h = sym (length-take-le n xs (omega (arith, e, h)))
+
+pub returns-in_err-refusal-clause-left : goal.returns-in_err-refusal-clause-left
+returns-in_err-refusal-clause-left c =
+    let a = c.args in
+    let t = refused-call a.told a.counters a.media.now a.copy.now (log_seen a.log.now) (marks_seen a.marks.now) (entered_in a.entries.now) _ c.entries_uneven-uneven.ensures _ c.in_err-refusal.ensures in
+    search rules
+
+pub returns-clause-left : goal.returns-clause-left
+returns-clause-left c =
+    let a = c.args in
+    derived-call a.told a.counters a.media.now a.copy.now (log_seen a.log.now) (marks_seen a.marks.now) (entered_in a.entries.now) _ c.entries_uneven-uneven.ensures c.in_ok-refusal.ensures
+    _ c.outstanding.ensures _ c.last_barrier.ensures _ c.derive.ensures.left
 
 pub outstanding-requires : goal.outstanding-requires
-outstanding-requires c = (held (goal.at.outstanding-requires c).Else-refused-ne0).sizes
+outstanding-requires c = (held (goal.at.outstanding-requires c).In_ok-refusal).sizes
+
+pub slice_bounds-kinds-end : goal.slice_bounds-kinds-end
+slice_bounds-kinds-end c = let h = (held (goal.at.slice_bounds-kinds-end c).In_ok-refusal) in part _ _ _ refl h.operations
 
 pub slice_bounds-last_barrier-end : goal.slice_bounds-last_barrier-end
-slice_bounds-last_barrier-end c = sym (length-take-le _ _ (held (goal.at.slice_bounds-last_barrier-end c).Else-refused-ne0).operations)
+slice_bounds-last_barrier-end c = let h = (held (goal.at.slice_bounds-last_barrier-end c).In_ok-refusal) in part _ _ _ h.answers h.operations
 
-pub slice_bounds-last_barrier-end-2 : goal.slice_bounds-last_barrier-end-2
-slice_bounds-last_barrier-end-2 c = sym (length-take-le _ _ (omega (arith, (held (goal.at.slice_bounds-last_barrier-end-2 c).Else-refused-ne0).operations, (held (goal.at.slice_bounds-last_barrier-end-2 c).Else-refused-ne0).answers)))
+pub slice_bounds-counted-end : goal.slice_bounds-counted-end
+slice_bounds-counted-end c = let h = (held (goal.at.slice_bounds-counted-end c).In_ok-refusal) in part _ _ _ h.changes h.operations
 
-pub slice_bounds-derive-end : goal.slice_bounds-derive-end
-slice_bounds-derive-end c = sym (length-take-le _ _ (held (goal.at.slice_bounds-derive-end c).Else-refused-ne0).operations)
+pub slice_bounds-counted-end-2 : goal.slice_bounds-counted-end-2
+slice_bounds-counted-end-2 c = let h = (held (goal.at.slice_bounds-counted-end-2 c).In_ok-refusal) in part _ _ _ refl h.marks
 
-pub slice_bounds-derive-end-2 : goal.slice_bounds-derive-end-2
-slice_bounds-derive-end-2 c = sym (length-take-le _ _ (omega (arith, (held (goal.at.slice_bounds-derive-end-2 c).Else-refused-ne0).operations, (held (goal.at.slice_bounds-derive-end-2 c).Else-refused-ne0).changes)))
+pub slice_bounds-counted-end-3 : goal.slice_bounds-counted-end-3
+slice_bounds-counted-end-3 c = let h = (held (goal.at.slice_bounds-counted-end-3 c).In_ok-refusal) in part _ _ _ h.names h.marks
 
-pub slice_bounds-derive-end-3 : goal.slice_bounds-derive-end-3
-slice_bounds-derive-end-3 c = sym (length-take-le _ _ (held (goal.at.slice_bounds-derive-end-3 c).Else-refused-ne0).marks)
+pub slice_bounds-counted-end-4 : goal.slice_bounds-counted-end-4
+slice_bounds-counted-end-4 c = let h = (held (goal.at.slice_bounds-counted-end-4 c).In_ok-refusal) in part _ _ _ h.stands h.marks
 
-pub slice_bounds-derive-end-4 : goal.slice_bounds-derive-end-4
-slice_bounds-derive-end-4 c = sym (length-take-le _ _ (omega (arith, (held (goal.at.slice_bounds-derive-end-4 c).Else-refused-ne0).marks, (held (goal.at.slice_bounds-derive-end-4 c).Else-refused-ne0).names)))
-
-pub slice_bounds-derive-end-5 : goal.slice_bounds-derive-end-5
-slice_bounds-derive-end-5 c = sym (length-take-le _ _ (omega (arith, (held (goal.at.slice_bounds-derive-end-5 c).Else-refused-ne0).marks, (held (goal.at.slice_bounds-derive-end-5 c).Else-refused-ne0).stands)))
+pub invariant_of-counted : goal.invariant_of-counted
+invariant_of-counted c = let h = (held (goal.at.invariant_of-counted c).In_ok-refusal) in record { even = (simp (length-take, h.names), simp (length-take, h.stands)) }
 
 pub derive-requires : goal.derive-requires
-derive-requires c =
-    let h = held (goal.at.derive-requires c).Else-refused-ne0 in
-    (simp (length-take, h.names), simp (length-take, h.stands), h.states, h.torn)
-
-pub returns : goal.returns
-returns c =
-    derived-call c.args.told c.args.counters c.args.media.now c.args.copy.now (log (goal.at.returns c).Start) (marks (goal.at.returns c).Start) (entered (goal.at.returns c).Start) _ _ _ c.log_uneven-log.ensures c.marks_uneven-marks.ensures c.entries_uneven-entries.ensures _ _ _ c.length_refusal-lengths.ensures c.code_refusal-contents.ensures
-    c.first_of-refused.ensures c.if-refused-ne0.false
-    _ c.outstanding.ensures _ c.last_barrier.ensures _ c.derive.ensures
+derive-requires c = (held (goal.at.derive-requires c).In_ok-refusal).entries

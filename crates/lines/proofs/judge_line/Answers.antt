@@ -2,15 +2,14 @@
 use Rattle.lines.proofs.Ways.{judge-short, judge-done}
 use Rattle.lines.proofs.judge_line.Goals as goal
 
-pub returns-then-not-fitting : goal.returns-then-not-fitting
-returns-then-not-fitting c =
+pub returns-then-not-ids_fit-clause-put : goal.returns-then-not-ids_fit-clause-put
+returns-then-not-ids_fit-clause-put c =
     let a = c.args in
-    judge-short a.place a.verdict a.history.now a.at a.out.now _ _ c.places.ensures c.places-2.ensures _
-    c.ids_fit-fitting.ensures c.if-not-fitting.true-raw
+    judge-short a.place a.verdict a.history.now a.to.now.at a.to.now.out.now _ _ c.places.ensures c.places-2.ensures _
+    c.ids_fit.ensures c.if-not-ids_fit.true
 
-pub returns : goal.returns
-returns c =
+pub returns-clause-put : goal.returns-clause-put
+returns-clause-put c =
     let a = c.args in
-    judge-done a.place a.verdict a.history.now a.at a.out.now _ _ c.places.ensures c.places-2.ensures _
-    c.ids_fit-fitting.ensures c.if-not-fitting.false-raw _ _ _ _ _ c.put_number-placed.ensures c.put_field-judged.ensures
-    c.put_ids-listed.ensures c.put_byte.ensures
+    judge-done a.place a.verdict a.history.now a.to.now.at a.to.now.out.now _ _ c.places.ensures c.places-2.ensures _
+    c.ids_fit.ensures c.if-not-ids_fit.false _ _ _ _ _ c.put_number.ensures.put c.put_field.ensures.put c.put_ids.ensures.put c.put_byte.ensures.put

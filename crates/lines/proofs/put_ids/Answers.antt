@@ -1,15 +1,11 @@
--- `lines::put_ids` meets its contract: the ids from `row` on are still to be written. Assumes nothing.
-use mathlib.Core.Path.{refl, ◌∙◌}
-use native.Mathlib.Omega.{arith}
+-- `lines::put_ids` meets its contract: the ids from the turn's own on are still to be written. Assumes nothing.
+use mathlib.Core.Path.{◌∙◌}
 use Rattle.lines.proofs.Ids.{ids-put, ids-put-end}
 use Rattle.lines.proofs.put_ids.Goals as goal
 
-pub loop-row-init : goal.loop-row-init
-loop-row-init c = (omega arith, refl, refl)
+pub loop-id-preserved : goal.loop-id-preserved
+loop-id-preserved c =
+    (c.put_field.ensures.same ∙ c.loop-id.invariant.0, ids-put _ _ _ _ _ c.loop-id.invariant.1 c.loop-id-test.true c.put_field.ensures.put)
 
-pub loop-row-preserved : goal.loop-row-preserved
-loop-row-preserved c =
-    (omega arith, c.out-1.given ∙ c.loop-row.invariant.1, ids-put _ _ _ _ _ c.loop-row.invariant.2 c.loop-row-test.true (rw c.wide.ensures at c.put_field-past.ensures))
-
-pub returns : goal.returns
-returns c = ids-put-end _ _ _ _ c.loop-row.invariant.2 c.loop-row-test.false
+pub returns-clause-put : goal.returns-clause-put
+returns-clause-put c = ids-put-end _ _ _ _ c.loop-id.invariant.1 c.loop-id-test.false

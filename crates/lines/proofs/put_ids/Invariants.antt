@@ -1,14 +1,13 @@
--- `lines::put_ids` meets its contract: the ids from `row` on are still to be written. Assumes nothing.
+-- `lines::put_ids` meets its contract: the ids from the turn's own on are still to be written. Assumes nothing.
 use mathlib.Core.Path.{◌≡◌}
 use mathlib.Core.List.{map}
-use Prim.Native.Nat.{◌-◌, ◌≤◌}
-use lib.ListN.{length, drop}
+use lib.ListN.{drop}
 use Rattle.text.specs.Numbers.{decimal_of}
-use Rattle.pieces.specs.Pieces.{cursor, after_all, tabbed}
+use Rattle.pieces.specs.Pieces.{after_all, tabbed}
+use Rattle.pieces.specs.Cursors.{cursor_in, SameOut}
 use Rattle.lines.proofs.put_ids.Given as goal
 
-abbrev pub invariant-loop-row : goal.invariant-loop-row
-invariant-loop-row l = (l.row ≤ length l.ids) × (length l.out ≡ length l.initial.out) × (after_all (tabbed (map decimal_of l.ids)) (cursor l.at l.initial.out) ≡ after_all (tabbed (map decimal_of (drop l.row l.ids))) (cursor l.past l.out))
-
-abbrev pub decreases-loop-row : goal.decreases-loop-row
-decreases-loop-row l = length l.ids - l.row
+abbrev pub invariant-loop-id : goal.invariant-loop-id
+invariant-loop-id l =
+    SameOut l.initial.to l.to
+    × (after_all (tabbed (map decimal_of l.ids)) (cursor_in l.initial.to) ≡ after_all (tabbed (map decimal_of (drop l.id-index l.ids))) (cursor_in l.to))

@@ -1,25 +1,22 @@
--- `oracle::first_difference` meets its contract: up to `position` the history is the committed ids of the rows before i. Assumes nothing.
-use borrow.Author.Rules.{rules}
-use Rattle.oracle.proofs.Pass.{passed}
+-- `oracle::first_difference` meets its contract: up to `position` the history is the committed ids that have come. Assumes nothing.
+use Rattle.std.proofs.Common.{rules}
+use Rattle.model.specs.Scans.{ids_from}
+use Rattle.oracle.proofs.Committed.{committed-next}
+use Rattle.oracle.proofs.Pass.{differ-start, differ-end, differ-here, differ-on}
 use Rattle.oracle.proofs.first_difference.Goals as goal
 
-pub loop-i-init : goal.loop-i-init
-loop-i-init c = search (rules, passed)
+pub loop-position-init : goal.loop-position-init
+loop-position-init c = let s = differ-start (ids_from 1 c.args.ledger.now.ids.now c.args.ledger.now.states.now) c.args.history.now in search (rules, s)
 
-pub loop-i-preserved-then-states-i-eq0 : goal.loop-i-preserved-then-states-i-eq0
-loop-i-preserved-then-states-i-eq0 c = search (rules, passed)
+pub returns-then-ne : goal.returns-then-ne
+returns-then-ne c =
+    let n = committed-next _ _ (λ x b q k. search rules) _ (λ w x y q k. search rules) c.loop-position.committed c.next-expected.new.self c.next-expected.result (search rules) c.next-expected.ensures.steps in
+    differ-here _ _ _ _ c.loop-position.invariant c.loop-position-test.true _ c.next-expected.result n c.ne.result c.ne.ensures c.if-ne.true
 
-pub returns-then-position-history : goal.returns-then-position-history
-returns-then-position-history c = search (rules, passed)
-
-pub returns-then-ids-i : goal.returns-then-ids-i
-returns-then-ids-i c = search (rules, passed)
-
-pub loop-i-preserved : goal.loop-i-preserved
-loop-i-preserved c = search (rules, passed)
-
-pub returns-then-position-history-2 : goal.returns-then-position-history-2
-returns-then-position-history-2 c = search (rules, passed)
+pub loop-position-preserved : goal.loop-position-preserved
+loop-position-preserved c =
+    let n = committed-next _ _ (λ x b q k. search rules) _ (λ w x y q k. search rules) c.loop-position.committed c.next-expected.new.self c.next-expected.result (search rules) c.next-expected.ensures.steps in
+    differ-on _ _ _ _ c.loop-position.invariant c.loop-position-test.true _ c.next-expected.result n c.ne.result c.ne.ensures c.if-ne.false
 
 pub returns : goal.returns
-returns c = search (rules, passed)
+returns c = differ-end _ _ _ _ c.loop-position.invariant c.loop-position-test.false

@@ -1,19 +1,29 @@
--- `oracle::first_lost` meets its contract: no acknowledged id of the rows before i is lost. Assumes nothing.
-use borrow.Author.Rules.{rules}
-use Rattle.oracle.proofs.Pass.{passed}
+-- `oracle::first_lost` meets its contract: no acknowledged id of the rows passed is lost. Assumes nothing.
+use Rattle.std.proofs.Common.{length, rules}
+use Rattle.std.proofs.lemmas.List.{length_push}
+use Rattle.std.proofs.lemmas.Slice.Zip.{zip_turn, zip_end}
+use Rattle.oracle.proofs.Pass.{lost-start, lost-skip, lost-next, lost-here, lost-end}
 use Rattle.oracle.proofs.first_lost.Goals as goal
+use Rattle.oracle.proofs.first_lost.Goals.{else-state-via-then-state+else-not-contains, else-state-via-else-state}
 
-pub loop-i-init : goal.loop-i-init
-loop-i-init c = search (rules, passed)
+pub loop-id-init : goal.loop-id-init
+loop-id-init c = search lost-start
 
-pub loop-i-preserved-then-states-i-lt2 : goal.loop-i-preserved-then-states-i-lt2
-loop-i-preserved-then-states-i-lt2 c = search (rules, passed)
+pub returns-then-not-contains : goal.returns-then-not-contains
+returns-then-not-contains c =
+    let t = zip_turn c.args.ledger.now.ids.now c.args.ledger.now.states.now c.loop-id.yielded _ _ c.next.new.self _ (search rules) (search rules) c.loop-id.yielded_by _ c.in-Some.is c.next.ensures.steps in
+    lost-here c.args.ledger.now.ids.now c.args.ledger.now.states.now c.args.history.now (length c.loop-id.yielded) c.loop-id.invariant c.in-Some.id.now c.in-Some.state.now t c.if-state.true c.contains.result c.contains.ensures c.if-not-contains.true
 
-pub loop-i-preserved : goal.loop-i-preserved
-loop-i-preserved c = search (rules, passed)
-
-pub returns-else-contains : goal.returns-else-contains
-returns-else-contains c = search (rules, passed)
+pub loop-id-preserved : goal.loop-id-preserved
+loop-id-preserved c =
+    let t = zip_turn c.args.ledger.now.ids.now c.args.ledger.now.states.now c.loop-id.yielded _ _ c.next.new.self _ (search rules) (search rules) c.loop-id.yielded_by _ c.in-Some.is c.next.ensures.steps in
+    rw (length_push c.loop-id.yielded (c.in-Some.id, c.in-Some.state))
+    (elim c.else-state.branch [
+      | else-state-via-then-state+else-not-contains w ↦ lost-next c.args.ledger.now.ids.now c.args.ledger.now.states.now c.args.history.now (length c.loop-id.yielded) c.loop-id.invariant c.in-Some.id.now c.in-Some.state.now t w.if-state.true w.contains.result w.contains.ensures w.if-not-contains.false
+      | else-state-via-else-state w ↦ lost-skip c.args.ledger.now.ids.now c.args.ledger.now.states.now c.args.history.now (length c.loop-id.yielded) c.loop-id.invariant c.in-Some.id.now c.in-Some.state.now t w.if-state.false
+    ])
 
 pub returns : goal.returns
-returns c = search (rules, passed)
+returns c =
+    let t = zip_end c.args.ledger.now.ids.now c.args.ledger.now.states.now c.loop-id.yielded _ _ c.next.new.self _ (search rules) (search rules) c.loop-id.yielded_by c.in-None.is c.next.ensures.steps in
+    lost-end c.args.ledger.now.ids.now c.args.ledger.now.states.now c.args.history.now (length c.loop-id.yielded) c.loop-id.invariant t

@@ -1,13 +1,13 @@
--- `oracle::first_unaccounted` meets its contract: no dispatched id before i is lost. Assumes nothing.
-use borrow.Author.Rules.{rules}
+-- `oracle::first_unaccounted` meets its contract: no dispatched id before this one is lost. Assumes nothing.
+use Rattle.std.proofs.Common.{rules}
 use Rattle.oracle.proofs.Pass.{passed}
 use Rattle.oracle.proofs.first_unaccounted.Goals as goal
 
-pub loop-i-preserved : goal.loop-i-preserved
-loop-i-preserved c = search (rules, passed)
+pub returns-then-not-contains : goal.returns-then-not-contains
+returns-then-not-contains c = search (rules, passed)
 
-pub returns-else-contains : goal.returns-else-contains
-returns-else-contains c = search (rules, passed)
+pub loop-intent-preserved : goal.loop-intent-preserved
+loop-intent-preserved c = search (rules, passed)
 
 pub returns : goal.returns
 returns c = search (rules, passed)

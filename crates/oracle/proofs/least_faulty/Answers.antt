@@ -1,13 +1,19 @@
--- `oracle::least_faulty` meets its contract: the least so far and that of the rest make up the least of the whole history. Assumes nothing.
-use borrow.Author.Rules.{rules}
-use Rattle.oracle.proofs.Pass.{passed}
+-- `oracle::least_faulty` meets its contract: the chain is the definition. Assumes nothing.
+use Rattle.std.proofs.Common.{sym, ◌∙◌, rules}
+use Rattle.std.specs.Result.{is_err}
+use Rattle.std.proofs.lemmas.Iterator.{YieldsList-from_slice}
+use Rattle.std.proofs.lemmas.Iterator.Adapters.{option_map_id}
+use Rattle.std.proofs.lemmas.Iterator.Consumers.{YieldsList-from_copied, YieldsList-from_filter, YieldsList-at, min_from_yields_List}
+use Rattle.model.specs.Columns.{ledger_of}
+use Rattle.oracle.specs.Verdict.{fault_of}
+use Rattle.oracle.specs.Scans.{least_faulty}
 use Rattle.oracle.proofs.least_faulty.Goals as goal
 
-pub loop-i-init : goal.loop-i-init
-loop-i-init c = search (rules, passed)
-
-pub loop-i-preserved : goal.loop-i-preserved
-loop-i-preserved c = search (rules, passed)
-
 pub returns : goal.returns
-returns c = search (rules, passed)
+unfolding least_faulty
+returns c =
+    sym (option_map_id c.min.result)
+    ∙ min_from_yields_List _ _ c.min.ensures.ran
+    (YieldsList-from_filter _ (λ x. is_err (fault_of (ledger_of c.args.ledger.now.ids.now c.args.ledger.now.states.now c.args.ledger.now.torn.now) x))
+    (YieldsList-at c.filter.ensures.source (YieldsList-from_copied (YieldsList-at c.copied.ensures.source (YieldsList-from_slice c.args.history.now (search rules)))))
+    c.filter.ensures.closure (λ x b q k. search rules))

@@ -1,32 +1,27 @@
--- `records::last_barrier` meets its contract: the last one among the operations passed. Assumes nothing.
-use mathlib.Core.Path.{sym, ◌∙◌}
-use Prim.Native.Nat.{◌<◌}
-use native.Mathlib.Omega.{arith}
-use lib.ListN.{length}
-use Rattle.records.proofs.Scanning.{barrier-yes, barrier-no, barrier-end}
+-- `records::last_barrier` meets its contract: the last one among the operations read, and those not yet read. Assumes nothing.
+use mathlib.Core.Path.{sym, ap, ◌∙◌}
+use mathlib.Core.Logic.{inl, inr, ⊎_elim}
+use Prim.Native.Nat.{◌+◌}
+use Rattle.std.proofs.Common.{rules}
 use Rattle.records.specs.Columns.{last_place}
-use borrow.Author.Rules.{rules}
+use Rattle.records.proofs.Scanning.{barrier-next, barrier-yes, barrier-no, barrier-end}
 use Rattle.records.proofs.last_barrier.Goals as goal
-use Rattle.records.proofs.last_barrier.Goals.{then-kinds-i, else-kinds-i}
 
-pub loop-i-init : goal.loop-i-init
+pub loop-at-init : goal.loop-at-init
 unfolding last_place
-loop-i-init c = search rules
+loop-at-init c = search rules
 
-pub loop-i-preserved : goal.loop-i-preserved
-loop-i-preserved c =
-    let rows = c.lower-rows.ensures in
-    let kinds = c.args.kinds.now in
-    let answered = c.args.answered.now in
-    let i = c.loop-i.i in
-    let h : i < length kinds = omega (arith, rows.1) in
-    let g : i < length answered = omega (arith, rows.2) in
-    elim c.if-kinds-i.branch [
-      | then-kinds-i w ↦ w.last-is ∙ sym (barrier-yes kinds answered i h g w.if-kinds-i.true)
-      | else-kinds-i w ↦ w.last-is ∙ c.loop-i.invariant ∙ sym (barrier-no kinds answered i h g w.if-kinds-i.false)
-    ]
+pub loop-at-preserved-then-kind-answered : goal.loop-at-preserved-then-kind-answered
+loop-at-preserved-then-kind-answered c =
+    let s = c.in-Some.ensures.steps in
+    let t = barrier-yes _ c.loop-at.at-iterator.count _ _ (c.loop-at.invariant.1 ∙ barrier-next _ _ _ _ _ _ s.0.0 s.0.1) _ s.2 c.if-kind-answered.true in
+    (ap (λ n. n + 1) s.1 ∙ sym s.2 ∙ t.0, t.1)
+
+pub loop-at-preserved : goal.loop-at-preserved
+loop-at-preserved c =
+    let s = c.in-Some.ensures.steps in
+    let t = barrier-no _ c.loop-at.at-iterator.count _ _ (c.loop-at.invariant.1 ∙ barrier-next _ _ _ _ _ _ s.0.0 s.0.1) _ s.2 c.if-kind-answered.false in
+    (c.loop-at.invariant.0 ∙ t.0, t.1)
 
 pub returns : goal.returns
-returns c =
-    let rows = c.lower-rows.ensures in
-    c.loop-i.invariant ∙ barrier-end c.args.kinds.now c.args.answered.now c.loop-i.i (omega (arith, rows.0))
+returns c = c.loop-at.invariant.0 ∙ barrier-end _ _ _ _ c.loop-at.invariant.1 (⊎_elim (λ w. inl w.1.0) (λ w. inr w.1.0) c.in-None.ensures.steps.0)

@@ -1,16 +1,18 @@
 -- `rows::lengths_refusal` meets its contract: the first test that refuses. Assumes nothing.
+use borrow.Author.Rules.{rules}
+use Rattle.storage.specs.Nonzero.{error-nonzero}
+use Rattle.refusals.specs.Nonzero.{refusal-nonzero}
 use Rattle.rows.proofs.Lengths.{length-units, length-sizes, length-uneven, length-even}
-use Rattle.storage.proofs.Numbers.{geometry-refusal}
 use Rattle.rows.proofs.lengths_refusal.Goals as goal
 
-pub returns-then-units-ne0 : goal.returns-then-units-ne0
-returns-then-units-ne0 c = length-units _ _ _ _ _ 0 (geometry-refusal _ _ _ c.check-checked.ensures c.refusal-units.ensures) c.if-units-ne0.true
+pub returns-in_err-check : goal.returns-in_err-check
+returns-in_err-check c = let t = length-units c.args.geometry c.args.media c.args.copy c.args.uneven _ (error-nonzero _) c.in_err-check.ensures in search rules
 
-pub returns-then-sizes-ne0 : goal.returns-then-sizes-ne0
-returns-then-sizes-ne0 c = length-sizes _ _ _ _ _ _ (geometry-refusal _ _ _ c.check-checked.ensures c.refusal-units.ensures) c.if-units-ne0.false c.size_refusal-sizes.ensures c.if-sizes-ne0.true
+pub returns-in_err-size_refusal : goal.returns-in_err-size_refusal
+returns-in_err-size_refusal c = let t = length-sizes c.args.geometry c.args.media c.args.copy c.args.uneven c.in_ok-check.ensures _ (refusal-nonzero _) c.in_err-size_refusal.ensures in search rules
 
 pub returns-then-uneven : goal.returns-then-uneven
-returns-then-uneven c = length-uneven _ _ _ _ _ _ (geometry-refusal _ _ _ c.check-checked.ensures c.refusal-units.ensures) c.if-units-ne0.false c.size_refusal-sizes.ensures c.if-sizes-ne0.false c.if-uneven.true
+returns-then-uneven c = length-uneven _ _ _ _ c.in_ok-check.ensures c.in_ok-size_refusal.ensures c.if-uneven.true
 
-pub returns-else-uneven : goal.returns-else-uneven
-returns-else-uneven c = length-even _ _ _ _ _ _ (geometry-refusal _ _ _ c.check-checked.ensures c.refusal-units.ensures) c.if-units-ne0.false c.size_refusal-sizes.ensures c.if-sizes-ne0.false c.if-uneven.false
+pub returns : goal.returns
+returns c = length-even _ _ _ _ c.in_ok-check.ensures c.in_ok-size_refusal.ensures c.if-uneven.false

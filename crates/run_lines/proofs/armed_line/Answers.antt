@@ -1,29 +1,23 @@
 -- `run_lines::armed_line` meets its contract: a run that is refused, or its ledger's line. Assumes nothing.
-use mathlib.Core.Path.{sym}
+use mathlib.Core.Path.{◌∙◌}
 use Prim.Native.Nat.{ℕ}
 use lib.ListN.{length-replicate}
-use Rattle.script.specs.Columns.{Columns, columns}
-use Rattle.run_lines.proofs.Parts.{on-zeros, armed-refused, armed-ended}
+use Rattle.std.proofs.Common.{rules}
+use Rattle.script.specs.Lent.{columns_seen}
+use Rattle.run_lines.proofs.Parts.{on-zeros, armed-is}
 use Rattle.run_lines.proofs.armed_line.Goals as goal
-use Rattle.run_lines.proofs.armed_line.Goals.{Start}
 
--- what was lent
-abbrev table : goal.Start → Columns
-table c = columns c.args.kinds.now c.args.firsts.now c.args.seconds.now c.args.thirds.now c.args.starts.now c.args.pool.now
+pub run_on-requires : goal.run_on-requires
+run_on-requires c = (length-replicate {A = ℕ} 16384 0, length-replicate {A = ℕ} 16384 0)
 
-pub slice_bounds-run_on-end : goal.slice_bounds-run_on-end
-slice_bounds-run_on-end c = sym (length-replicate {A = ℕ} 16384 0)
+pub returns-in_err-run-clause-put : goal.returns-in_err-run-clause-put
+returns-in_err-run-clause-put c =
+    let k = columns_seen c.args.calls.now in
+    let t = armed-is c.args.judged c.args.place c.args.armed c.args.head c.args.rows k c.args.to.now.at c.args.to.now.out.now _ _ (on-zeros c.args.head c.args.armed c.args.rows k _ _ c.in_err-run.ensures) in
+    search rules
 
-pub slice_bounds-run_on-end-2 : goal.slice_bounds-run_on-end-2
-slice_bounds-run_on-end-2 c = sym (length-replicate {A = ℕ} 16384 0)
-
-pub run_on-ran-requires : goal.run_on-ran-requires
-run_on-ran-requires c = (length-replicate {A = ℕ} 16384 0, length-replicate {A = ℕ} 16384 0)
-
-pub returns-in-NotRun : goal.returns-in-NotRun
-returns-in-NotRun c =
-    armed-refused c.args.judged c.args.place c.args.armed c.args.head c.args.rows (table (goal.at.returns-in-NotRun c).Start) c.args.at c.args.out.now _ _ (on-zeros c.args.head c.args.armed c.args.rows (table (goal.at.returns-in-NotRun c).Start) _ _ c.run_on-ran.ensures) _ c.in-NotRun.is
-
-pub returns-in-Ended : goal.returns-in-Ended
-returns-in-Ended c =
-    armed-ended c.args.judged c.args.place c.args.armed c.args.head c.args.rows (table (goal.at.returns-in-Ended c).Start) c.args.at c.args.out.now _ _ (on-zeros c.args.head c.args.armed c.args.rows (table (goal.at.returns-in-Ended c).Start) _ _ c.run_on-ran.ensures) _ _ _ _ c.in-Ended.is _ _ c.ended_line.ensures
+pub returns-clause-put : goal.returns-clause-put
+returns-clause-put c =
+    let k = columns_seen c.args.calls.now in
+    c.ledger_line.ensures.put
+    ∙ armed-is c.args.judged c.args.place c.args.armed c.args.head c.args.rows k c.args.to.now.at c.args.to.now.out.now _ _ (on-zeros c.args.head c.args.armed c.args.rows k _ _ c.in_ok-run.ensures)

@@ -2,6 +2,7 @@
 use Rattle.run_lines.proofs.Parts.{verdict-line}
 use Rattle.run_lines.proofs.verdict_line.Goals as goal
 
-pub returns : goal.returns
-returns c =
-    verdict-line c.args.place c.args.ids.now c.args.states.now c.args.torn.now c.args.at c.args.out.now c.args.history.now _ c.verify_oracle-verdict.ensures _ c.number-number.ensures _ _ c.judge_line.ensures
+pub returns-clause-put : goal.returns-clause-put
+returns-clause-put c =
+    let l = c.args.ledger.now in
+    verdict-line c.args.place l.ids.now l.states.now l.torn.now c.args.to.now.at c.args.to.now.out.now c.args.history.now _ c.verify_recovery-verdict.ensures _ c.number_in.ensures _ c.judge_line.ensures.put

@@ -7,4 +7,4 @@ pub returns-then-other : goal.returns-then-other
 returns-then-other c = alone-faulty _ _ _ c.requires (sym c.other_letter-other.ensures ∙ c.if-other.true)
 
 pub returns : goal.returns
-returns c = alone-row _ _ _ c.requires (sym c.other_letter-other.ensures ∙ c.if-other.false)
+returns c = rw c.bare_row.ensures (alone-row _ _ _ c.requires (sym c.other_letter-other.ensures ∙ c.if-other.false))

@@ -3,8 +3,8 @@ use borrow.Author.Rules.{rules}
 use Rattle.script.proofs.Letters.{letters}
 use Rattle.script.proofs.begin_line.Goals as goal
 
-pub returns-in_default : goal.returns-in_default
-returns-in_default c = search (rules, letters)
+pub returns-in_err-id : goal.returns-in_err-id
+returns-in_err-id c = search (rules, letters)
 
 pub returns : goal.returns
-returns c = search (rules, letters)
+returns c = rw c.bare_row.ensures (search (rules, letters))

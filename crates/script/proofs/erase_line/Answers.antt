@@ -3,11 +3,11 @@ use borrow.Author.Rules.{rules}
 use Rattle.script.proofs.Letters.{letters}
 use Rattle.script.proofs.erase_line.Goals as goal
 
-pub returns-in_default : goal.returns-in_default
-returns-in_default c = search (rules, letters)
+pub returns-in_err-offset : goal.returns-in_err-offset
+returns-in_err-offset c = search (rules, letters)
 
-pub returns-in_default-length_read : goal.returns-in_default-length_read
-returns-in_default-length_read c = search (rules, letters)
+pub returns-in_err-len : goal.returns-in_err-len
+returns-in_err-len c = search (rules, letters)
 
 pub returns : goal.returns
-returns c = search (rules, letters)
+returns c = rw c.bare_row.ensures (search (rules, letters))

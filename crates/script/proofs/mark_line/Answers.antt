@@ -3,14 +3,14 @@ use borrow.Author.Rules.{rules}
 use Rattle.script.proofs.Letters.{letters}
 use Rattle.script.proofs.mark_line.Goals as goal
 
-pub returns-in_default : goal.returns-in_default
-returns-in_default c = search (rules, letters)
+pub returns-in_err-id : goal.returns-in_err-id
+returns-in_err-id c = search (rules, letters)
 
-pub returns-in_default-first_read : goal.returns-in_default-first_read
-returns-in_default-first_read c = search (rules, letters)
+pub returns-in_err-first : goal.returns-in_err-first
+returns-in_err-first c = search (rules, letters)
 
-pub returns-in_default-last_read : goal.returns-in_default-last_read
-returns-in_default-last_read c = search (rules, letters)
+pub returns-in_err-last : goal.returns-in_err-last
+returns-in_err-last c = search (rules, letters)
 
 pub returns : goal.returns
-returns c = search (rules, letters)
+returns c = rw c.bare_row.ensures (search (rules, letters))

@@ -3,11 +3,11 @@ use borrow.Author.Rules.{rules}
 use Rattle.script.proofs.Letters.{letters}
 use Rattle.script.proofs.program_line.Goals as goal
 
-pub returns-in_default : goal.returns-in_default
-returns-in_default c = search (rules, letters)
+pub returns-in_err-offset : goal.returns-in_err-offset
+returns-in_err-offset c = search (rules, letters)
 
-pub returns-in_default-bytes_read : goal.returns-in_default-bytes_read
-returns-in_default-bytes_read c = search (rules, letters)
+pub returns-in_err-count : goal.returns-in_err-count
+returns-in_err-count c = search (rules, letters)
 
 pub returns-then-count-gt4096 : goal.returns-then-count-gt4096
 returns-then-count-gt4096 c = search (rules, letters)

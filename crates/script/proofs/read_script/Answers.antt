@@ -1,20 +1,25 @@
 -- `script::read_script` meets its contract: the check of the script, then the room, then the rows; each refusal leaves the columns. Assumes nothing.
+use mathlib.Core.Path.{ap, ◌∙◌}
 use borrow.Author.Rules.{rules}
-use Rattle.script.proofs.Rooms.{rooms, read-ready, read_done}
+use Rattle.refusals.specs.Nonzero.{refusal-nonzero}
+use Rattle.script.specs.Columns.{Columns, room_test}
+use Rattle.script.proofs.Rooms.{rooms, read-no-room, read-ready, read_done}
 use Rattle.script.proofs.read_script.Goals as goal
 
-pub returns-then-number-ne0 : goal.returns-then-number-ne0
-returns-then-number-ne0 c = search (rules, rooms)
+pub returns-in_err-script-clause-left : goal.returns-in_err-script-clause-left
+returns-in_err-script-clause-left c = search (rules, rooms)
+
+pub returns-in-Err-clause-left : goal.returns-in-Err-clause-left
+returns-in-Err-clause-left c =
+    let s = c.in_ok-script.script in
+    read-no-room _ _ _ _ _ c.in_ok-script.ensures _ _ (refusal-nonzero _) (c.in-Err.ensures ∙ ap (λ (k : Columns). room_test k s.calls s.bytes) c.seen.ensures)
 
 pub fill_lines-requires : goal.fill_lines-requires
 fill_lines-requires c =
-    let a = c.args in
-    read-ready a.text.now _ _ _ _ _ c.in-Good.is c.check-whole.ensures a.kinds.now a.firsts.now a.seconds.now a.thirds.now a.starts.now a.pool.now _ c.room_refusal-number.ensures c.if-number-ne0.false
+    let s = c.in_ok-script.script in
+    read-ready _ _ _ _ _ c.in_ok-script.ensures _ (c.in_default.ensures ∙ ap (λ (k : Columns). room_test k s.calls s.bytes) c.seen.ensures)
 
-pub returns-in-Bad : goal.returns-in-Bad
-returns-in-Bad c = search (rules, rooms)
-
-pub returns-else-number-ne0 : goal.returns-else-number-ne0
-returns-else-number-ne0 c =
-    let a = c.args in
-    read_done a.text.now _ _ _ _ _ c.in-Good.is c.check-whole.ensures a.kinds.now a.firsts.now a.seconds.now a.thirds.now a.starts.now a.pool.now _ c.room_refusal-number.ensures c.if-number-ne0.false _ c.fill_lines.ensures
+pub returns-clause-left : goal.returns-clause-left
+returns-clause-left c =
+    let s = c.in_ok-script.script in
+    read_done _ _ _ _ _ c.in_ok-script.ensures _ (c.in_default.ensures ∙ ap (λ (k : Columns). room_test k s.calls s.bytes) c.seen.ensures) _ c.fill_lines.ensures.left

@@ -3,17 +3,17 @@ use borrow.Author.Rules.{rules}
 use Rattle.script.proofs.Heads.{heads}
 use Rattle.script.proofs.read_units.Goals as goal
 
-pub returns-in_default : goal.returns-in_default
-returns-in_default c = search (rules, heads)
+pub returns-in_err-capacity : goal.returns-in_err-capacity
+returns-in_err-capacity c = search (rules, heads)
 
-pub returns-in_default-erase_read : goal.returns-in_default-erase_read
-returns-in_default-erase_read c = search (rules, heads)
+pub returns-in_err-erase_size : goal.returns-in_err-erase_size
+returns-in_err-erase_size c = search (rules, heads)
 
-pub returns-in_default-program_read : goal.returns-in_default-program_read
-returns-in_default-program_read c = search (rules, heads)
+pub returns-in_err-program_size : goal.returns-in_err-program_size
+returns-in_err-program_size c = search (rules, heads)
 
-pub returns-in_default-read_read : goal.returns-in_default-read_read
-returns-in_default-read_read c = search (rules, heads)
+pub returns-in_err-read_size : goal.returns-in_err-read_size
+returns-in_err-read_size c = search (rules, heads)
 
 pub returns : goal.returns
 returns c = search (rules, heads)

@@ -4,10 +4,10 @@ use Rattle.basics.specs.Tests.{unless}
 use Rattle.session.specs.Tests.{operation_test}
 use Rattle.session.proofs.operation_refusal.Goals as goal
 
-pub returns-then-operations-lt-OPERATIONS : goal.returns-then-operations-lt-OPERATIONS
+pub returns-then-operations-ge-OPERATIONS : goal.returns-then-operations-ge-OPERATIONS
 unfolding operation_test unless
-returns-then-operations-lt-OPERATIONS c = simp (lt-ltb _ _ c.if-operations-lt-OPERATIONS.true)
+returns-then-operations-ge-OPERATIONS c = simp (le-ltb _ _ c.if-operations-ge-OPERATIONS.true)
 
-pub returns-else-operations-lt-OPERATIONS : goal.returns-else-operations-lt-OPERATIONS
+pub returns : goal.returns
 unfolding operation_test unless
-returns-else-operations-lt-OPERATIONS c = simp (le-ltb _ _ c.if-operations-lt-OPERATIONS.false)
+returns c = simp (lt-ltb _ _ c.if-operations-ge-OPERATIONS.false)

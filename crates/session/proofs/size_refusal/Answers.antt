@@ -7,6 +7,6 @@ pub returns-then-media-capacity : goal.returns-then-media-capacity
 unfolding size_test refuse_if
 returns-then-media-capacity c = simp c.if-media-capacity.true
 
-pub returns-else-media-capacity : goal.returns-else-media-capacity
+pub returns : goal.returns
 unfolding size_test refuse_if
-returns-else-media-capacity c = simp c.if-media-capacity.false
+returns c = simp c.if-media-capacity.false

@@ -1,14 +1,24 @@
--- `session_calls::barrier_refusal` meets its contract: the tests in order, two at a time. Assumes nothing.
-use Rattle.storage.proofs.Numbers.{geometry-refusal}
-use Rattle.session_calls.proofs.Refusals.{barrier-tests}
+-- `session_calls::barrier_refusal` meets its contract: the tests in order. Assumes nothing.
+use Rattle.std.proofs.Common.{rules}
+use borrow.Author.Tests.{ne_eqb}
+use Rattle.basics.specs.Tests.{first_of}
+use Rattle.refusals.specs.Nonzero.{refusal-nonzero}
+use Rattle.storage.specs.Nonzero.{error-nonzero}
+use Rattle.session.specs.Barrier.{barrier_number}
 use Rattle.session_calls.proofs.barrier_refusal.Goals as goal
 
+pub returns-in_err-refusal : goal.returns-in_err-refusal
+unfolding barrier_number first_of
+returns-in_err-refusal c = let h = ne_eqb _ 0 (refusal-nonzero c.in_err-refusal.field-0.0) in search rules
+
+pub returns-in_err-refusal-2 : goal.returns-in_err-refusal-2
+unfolding barrier_number first_of
+returns-in_err-refusal-2 c = let h = ne_eqb _ 0 (refusal-nonzero c.in_err-refusal-2.field-0.0) in search rules
+
+pub returns-in_err-check : goal.returns-in_err-check
+unfolding barrier_number first_of
+returns-in_err-check c = let h = ne_eqb _ 0 (error-nonzero c.in_err-check.field-0.0) in search rules
+
 pub returns : goal.returns
-returns c =
-    barrier-tests _ _ _ _ _ _ _ _ _
-    (geometry-refusal _ _ _ c.check-checked.ensures c.refusal-units.ensures)
-    c.operation_refusal-full.ensures
-    c.number.ensures
-    c.first_of.ensures
-    c.first_of-2.ensures
-    c.first_of-3.ensures
+unfolding barrier_number first_of
+returns c = search rules

@@ -1,11 +1,17 @@
 -- `session_calls::start` meets its contract: refused, or the media filled. Assumes nothing.
+use lib.ListN.{length}
+use mathlib.Core.Path.{refl}
+use Rattle.std.proofs.Common.{rules}
+use Rattle.refusals.specs.Nonzero.{refusal-nonzero}
+use Rattle.session.specs.Lent.{log_seen, marks_seen}
 use Rattle.session_calls.proofs.Calls.{start-refused, start-taken}
 use Rattle.session_calls.proofs.start.Goals as goal
 
-pub returns-then-refused-ne0 : goal.returns-then-refused-ne0
-returns-then-refused-ne0 c = start-refused _ _ _ _ _ _ _ _ c.log_uneven-log.ensures c.marks_uneven-marks.ensures c.start_refusal-refused.ensures c.if-refused-ne0.true
+pub returns-in_err-start_refusal : goal.returns-in_err-start_refusal
+returns-in_err-start_refusal c =
+    let t = start-refused c.args.told c.args.media.now (length c.args.copy.now) (log_seen c.args.log.now) (marks_seen c.args.marks.now) _
+    c.in_err-start_refusal.ensures (refusal-nonzero _) in
+    search rules
 
 pub returns : goal.returns
-returns c =
-    start-taken _ _ _ _ _ _ _ _ c.log_uneven-log.ensures c.marks_uneven-marks.ensures c.start_refusal-refused.ensures c.if-refused-ne0.false _
-    c.fill_erased.ensures
+returns c = start-taken _ _ _ _ _ _ c.in_ok-start_refusal.ensures refl _ c.fill_erased.ensures

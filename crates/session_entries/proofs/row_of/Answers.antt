@@ -5,10 +5,10 @@ use Rattle.session_entries.proofs.row_of.Goals as goal
 pub returns : goal.returns
 unfolding row_of
 returns c = λ i. record {
-  kind = c.cell_u8.ensures i;
-  offset = c.cell_u32.ensures i;
-  len = c.cell_u32-2.ensures i;
-  digest = c.cell_u64.ensures i;
-  changed = c.cell_u8-2.ensures i;
-  answered = c.cell_u8-3.ensures i;
+  kind = c.cell.ensures i;
+  offset = c.cell-2.ensures i;
+  len = c.cell-3.ensures i;
+  digest = c.cell-4.ensures i;
+  changed = c.cell-5.ensures i;
+  answered = c.cell-6.ensures i;
 }

@@ -7,8 +7,8 @@ use Rattle.session_entries.proofs.Refused.{place_inside, place-outside}
 use Rattle.session_entries.proofs.store_entry.Goals as goal
 
 pub returns-then-index-log : goal.returns-then-index-log
-returns-then-index-log c = (place_inside c.args.index (length c.args.log.now) c.if-index-log.true, refl)
+returns-then-index-log c =
+    (place-outside c.args.index (length c.args.log.now) c.if-index-log.true, sym (set_out c.args.log.now c.args.index c.args.entry c.if-index-log.true))
 
 pub returns : goal.returns
-returns c =
-    (place-outside c.args.index (length c.args.log.now) c.if-index-log.false, sym (set_out c.args.log.now c.args.index c.args.entry c.if-index-log.false))
+returns c = (place_inside c.args.index (length c.args.log.now) c.if-index-log.false, refl)

@@ -1,25 +1,50 @@
--- `session_entries_local::entry_with` meets its contract: the answer is read from the log in the local, in which the entry was stored.
--- Assumes nothing.
-use mathlib.Core.Path.{◌≡◌}
+-- `session_entries_local::entry_with` meets its contract: each test in turn, then the entry read from the log in the local, in which the
+-- other one was stored. Assumes nothing.
+use mathlib.Core.Path.{ap, ◌∙◌}
 use mathlib.Core.List.{List}
-use Prim.Native.Nat.{ℕ}
 use lib.ListN.{length, set}
+use Rattle.std.proofs.Common.{rules}
+use Rattle.refusals.specs.Nonzero.{refusal-nonzero}
 use Rattle.session.specs.declared.Entry.{Entry}
-use Rattle.session.specs.Log.{Log, log_of}
-use Rattle.session_entries.specs.declared.EntryAnswer.{EntryAnswer}
-use Rattle.session_entries.specs.Entries.{entry_at, entries_number, to_entries}
-use Rattle.session_entries_local.specs.Local.{blank_log, with_number, unless_refused, entry_with}
-use Rattle.session_entries_local.proofs.Laws.{with-law}
+use Rattle.session.specs.Lent.{log_seen}
+use Rattle.session_entries.specs.Entries.{place_test, entry_at}
+use Rattle.session_entries_local.specs.Local.{blank_log}
+use Rattle.session_entries_local.proofs.Laws.{stopped-at, stopped-index, stopped-number, stored, answered-so}
 use Rattle.session_entries_local.proofs.entry_with.Goals as goal
 
--- the four calls in turn
-told : (l : Log) (at : ℕ) (e : Entry) (i number : ℕ) (xs ys : List Entry) (read answer : EntryAnswer) → (number ≡ entries_number l blank_log) × (xs ≡ to_entries l blank_log)
-    → ys ≡ set xs at e → read ≡ entry_at ys i → answer ≡ unless_refused (with_number at i (length l.kinds) number) read → answer ≡ entry_with l at e i
-told l at e i number xs ys read answer handed stored was is = cc (with-law l at e i)
+pub returns-in_err-inside : goal.returns-in_err-inside
+returns-in_err-inside c =
+    let t = stopped-at (log_seen c.args.log.now) c.args.at c.args.entry c.args.index _ (refusal-nonzero _) c.in_err-inside.ensures in
+    search rules
+
+pub returns-in_err-inside-2 : goal.returns-in_err-inside-2
+returns-in_err-inside-2 c =
+    let t = stopped-index (log_seen c.args.log.now) c.args.at c.args.entry c.args.index _ (refusal-nonzero _) c.in_ok-inside.ensures c.in_err-inside-2.ensures in
+    search rules
+
+pub returns-in_err-to_entries : goal.returns-in_err-to_entries
+unfolding blank_log
+returns-in_err-to_entries c =
+    let e = c.in_err-to_entries.ensures in
+    let t = stopped-number (log_seen c.args.log.now) c.args.at c.args.entry c.args.index _ (refusal-nonzero _) c.in_ok-inside.ensures c.in_ok-inside-2.ensures e.0 in
+    search rules
+
+-- the entry is stored
+pub returns-in_err-store_entry : goal.returns-in_err-store_entry
+unfolding blank_log
+returns-in_err-store_entry c =
+    let handed = c.in_ok-to_entries.ensures in
+    let e = c.in_err-store_entry.ensures in
+    absurd
+    (refusal-nonzero _
+    (e.0 ∙ ap (λ (xs : List Entry). place_test c.args.at (length xs)) handed.1
+    ∙ stored (log_seen c.args.log.now) c.args.at c.args.entry c.args.index c.in_ok-inside.ensures handed.0))
 
 pub returns : goal.returns
 unfolding blank_log
 returns c =
-    let a = c.args in
-    let l = log_of a.kinds.now a.offsets.now a.lens.now a.digests.now a.changed.now a.answered.now in
-    told l a.at a.entry a.index _ _ _ _ _ c.to_entries-number.ensures c.store_entry.ensures.1 c.read_entry-answer.ensures c.answer_for.ensures
+    let handed = c.in_ok-to_entries.ensures in
+    let kept = c.in_ok-store_entry.ensures in
+    c.read_entry.ensures
+    ∙ ap (λ (xs : List Entry). entry_at xs c.args.index) (kept.1 ∙ ap (λ (xs : List Entry). set xs c.args.at c.args.entry) handed.1)
+    ∙ answered-so (log_seen c.args.log.now) c.args.at c.args.entry c.args.index c.in_ok-inside.ensures handed.0 c.in_ok-inside-2.ensures

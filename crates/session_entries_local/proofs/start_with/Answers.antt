@@ -2,6 +2,6 @@
 use Rattle.session_entries_local.specs.Local.{blank_log}
 use Rattle.session_entries_local.proofs.start_with.Goals as goal
 
-pub returns : goal.returns
+pub returns-clause-left : goal.returns-clause-left
 unfolding blank_log
-returns c = rw c.store_entry.ensures.1 at c.to_columns.ensures
+returns-clause-left c = c.to_columns.ensures.left

@@ -1,16 +1,28 @@
--- `session_erase::erase_refusal` meets its contract: the tests in order, two at a time. Assumes nothing.
-use Rattle.storage.proofs.Numbers.{span-refusal}
-use Rattle.session_erase.proofs.Calls.{erase-tests}
+-- `session_erase::erase_refusal` meets its contract: the tests in order. Assumes nothing.
+use Rattle.std.proofs.Common.{rules}
+use borrow.Author.Tests.{ne_eqb}
+use Rattle.basics.specs.Tests.{first_of}
+use Rattle.refusals.specs.Nonzero.{refusal-nonzero}
+use Rattle.storage.specs.Nonzero.{error-nonzero}
+use Rattle.session_erase.specs.Erase.{erase_number}
 use Rattle.session_erase.proofs.erase_refusal.Goals as goal
 
+pub returns-in_err-size_refusal : goal.returns-in_err-size_refusal
+unfolding erase_number first_of
+returns-in_err-size_refusal c = let h = ne_eqb _ 0 (refusal-nonzero c.in_err-size_refusal.field-0.0) in search rules
+
+pub returns-in_err-refusal : goal.returns-in_err-refusal
+unfolding erase_number first_of
+returns-in_err-refusal c = let h = ne_eqb _ 0 (refusal-nonzero c.in_err-refusal.field-0.0) in search rules
+
+pub returns-in_err-refusal-2 : goal.returns-in_err-refusal-2
+unfolding erase_number first_of
+returns-in_err-refusal-2 c = let h = ne_eqb _ 0 (refusal-nonzero c.in_err-refusal-2.field-0.0) in search rules
+
+pub returns-in_err-validate_erase : goal.returns-in_err-validate_erase
+unfolding erase_number first_of
+returns-in_err-validate_erase c = let h = ne_eqb _ 0 (error-nonzero c.in_err-validate_erase.field-0.0) in search rules
+
 pub returns : goal.returns
-returns c =
-    erase-tests _ _ _ _ _ _ _ _ _ _ _ _ _ _ _
-    c.size_refusal-sizes.ensures
-    (span-refusal _ _ _ _ _ _ c.validate_erase-checked.ensures c.refusal-span.ensures)
-    c.operation_refusal-full.ensures
-    c.number.ensures
-    c.first_of.ensures
-    c.first_of-2.ensures
-    c.first_of-3.ensures
-    c.first_of-4.ensures
+unfolding erase_number first_of
+returns c = search rules

@@ -1,25 +1,33 @@
 -- `session_marks::mark_operations` meets its contract: refused, or two marks stored. Assumes nothing.
 use mathlib.Core.Path.{sym, ◌∙◌}
+use Prim.Native.Nat.{◌+◌, ◌≤◌}
 use native.Mathlib.Omega.{arith}
-use Rattle.session.specs.Log.{Marks, marks_of}
+use Rattle.session.specs.Log.{Marks}
+use Rattle.session.specs.Lent.{marks_in}
+use Rattle.session.proofs.Answers.{is-refused, is-passed}
 use Rattle.session_marks.proofs.Rows.{marks-fit, noted-refused, noted-taken, marked-two}
 use Rattle.session_marks.proofs.mark_operations.Goals as goal
-use Rattle.session_marks.proofs.mark_operations.Goals.{Start}
+use Rattle.session_marks.proofs.mark_operations.Goals.{Start, Else-is_err}
 
 -- the marks as they were lent
 abbrev lent : goal.Start → Marks
-lent c = marks_of c.args.codes.now c.args.ids.now c.args.places.now
+lent c = marks_in c.args.marks.now
 
-pub returns-then-refused-ne0 : goal.returns-then-refused-ne0
-returns-then-refused-ne0 c = noted-refused _ _ _ _ c.mark_refusal-refused.ensures _ c.if-refused-ne0.true
+-- two fit
+fit : (c : goal.Else-is_err) → c.args.counters.marks + 2 ≤ 512
+fit c = marks-fit _ _ _ _ _ (sym c.mark_refusal-answer.ensures ∙ is-passed _ _ c.is_err.ensures.value c.if-is_err.false)
 
-pub noted_by-reply-requires : goal.noted_by-reply-requires
-noted_by-reply-requires c = marks-fit _ _ _ _ _ (sym c.mark_refusal-refused.ensures ∙ c.if-refused-ne0.false)
+pub returns-then-is_err-clause-left : goal.returns-then-is_err-clause-left
+returns-then-is_err-clause-left c = noted-refused _ _ _ _ c.mark_refusal-answer.ensures _ (is-refused _ _ c.is_err.ensures.value c.if-is_err.true)
+
+pub noted_by-requires : goal.noted_by-requires
+noted_by-requires c = fit (goal.at.noted_by-requires c).Else-is_err
 
 pub overflow_add-first : goal.overflow_add-first
-overflow_add-first c = omega (arith, marks-fit _ _ _ _ _ (sym c.mark_refusal-refused.ensures ∙ c.if-refused-ne0.false))
+overflow_add-first c = omega (arith, fit (goal.at.overflow_add-first c).Else-is_err)
 
-pub returns : goal.returns
-returns c =
-    noted-taken _ _ (lent (goal.at.returns c).Start) _ c.mark_refusal-refused.ensures _ c.if-refused-ne0.false _ _ c.noted_by-reply.ensures
-    (marked-two (lent (goal.at.returns c).Start) _ _ _ _ _ c.mark.ensures c.mark-2.ensures)
+pub returns-clause-left : goal.returns-clause-left
+returns-clause-left c =
+    noted-taken _ _ (lent (goal.at.returns-clause-left c).Start) _ c.mark_refusal-answer.ensures _ (is-passed _ _ c.is_err.ensures.value c.if-is_err.false) _ _
+    c.noted_by.ensures
+    (marked-two (lent (goal.at.returns-clause-left c).Start) _ _ _ _ _ c.mark.ensures.left c.mark-2.ensures.left)

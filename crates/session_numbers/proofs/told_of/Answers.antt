@@ -1,4 +1,4 @@
--- `session_numbers::told_of` meets its contract: each field is that of its numbers. Assumes nothing.
+-- `session_numbers::told_of` meets its contract: each field is that of its number. Assumes nothing.
 use Rattle.session_numbers.specs.Numbers.{told_of}
 use Rattle.session_numbers.proofs.told_of.Goals as goal
 

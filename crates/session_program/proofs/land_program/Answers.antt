@@ -1,11 +1,6 @@
 -- `session_program::land_program` meets its contract: the copy's end and the media's part come back as the definition has them. Assumes nothing.
-use mathlib.Core.Path.{sym}
-use lib.Seq.{length-take-le}
 use Rattle.session_program.proofs.Landings.{landing}
 use Rattle.session_program.proofs.land_program.Goals as goal
-
-pub slice_bounds-apply_program-end : goal.slice_bounds-apply_program-end
-slice_bounds-apply_program-end c = sym (length-take-le _ _ c.requires.0)
 
 pub returns : goal.returns
 returns c =

@@ -1,34 +1,40 @@
 -- `session_program::program` meets its contract: refused, or landed and recorded. Assumes nothing.
 use mathlib.Core.Path.{sym, ◌∙◌}
-use Rattle.session_program.proofs.Refusals.{ready}
-use Rattle.session_program.proofs.Landings.{plan-le}
+use lib.ListN.{length}
+use Rattle.session.proofs.Answers.{is-refused, is-passed, byte-flag, answered-flag}
+use Rattle.session_program.proofs.Refusals.{Ready, ready}
+use Rattle.session_program.proofs.Landings.{plan-is, plan-le}
 use Rattle.session_program.proofs.Calls.{program-refused, program-taken}
 use Rattle.session_program.proofs.program.Goals as goal
+use Rattle.session_program.proofs.program.Goals.{Else-is_err}
 
-pub returns-then-refused-ne0 : goal.returns-then-refused-ne0
-returns-then-refused-ne0 c = program-refused _ _ _ _ _ _ _ _ _ c.log_refusal-log.ensures c.program_refusal-refused.ensures c.if-refused-ne0.true
+-- what a program that is taken knows
+known : (c : goal.Else-is_err) → Ready c.args.told c.args.offset c.args.bytes.now c.args.media.now (length c.args.copy.now)
+known c = ready _ _ _ _ _ _ _ (sym c.program_refusal-answer.ensures ∙ is-passed _ _ c.is_err.ensures.value c.if-is_err.false)
+
+pub returns-then-is_err-clause-left : goal.returns-then-is_err-clause-left
+returns-then-is_err-clause-left c = program-refused _ _ _ _ _ _ _ _ c.program_refusal-answer.ensures (is-refused _ _ c.is_err.ensures.value c.if-is_err.true)
 
 pub overflow_cast-len : goal.overflow_cast-len
-overflow_cast-len c = record { fits = (ready _ _ _ _ _ _ _ (sym c.program_refusal-refused.ensures ∙ c.if-refused-ne0.false)).few }
+overflow_cast-len c = record { fits = (known (goal.at.overflow_cast-len c).Else-is_err).few }
 
-pub program_plan-plan-requires : goal.program_plan-plan-requires
-program_plan-plan-requires c = (ready _ _ _ _ _ _ _ (sym c.program_refusal-refused.ensures ∙ c.if-refused-ne0.false)).span.fits
+pub write_plan-plan-requires : goal.write_plan-plan-requires
+write_plan-plan-requires c = (known (goal.at.write_plan-plan-requires c).Else-is_err).span.fits
 
 pub land_program-touched-requires : goal.land_program-touched-requires
 land_program-touched-requires c =
-    let r = ready _ _ _ _ _ _ _ (sym c.program_refusal-refused.ensures ∙ c.if-refused-ne0.false) in
-    (plan-le _ _ _ _ _ c.program_plan-plan.ensures, rw r.media-whole r.span.inside, r.copy-whole ∙ sym r.media-whole, r.span.fits)
+    let r = known (goal.at.land_program-touched-requires c).Else-is_err in
+    (plan-le c.args.told _ _ _ _ c.write_plan-plan.ensures, rw r.media-whole r.span.inside, r.copy-whole ∙ sym r.media-whole, r.span.fits)
 
-pub returns : goal.returns
-returns c =
-    program-taken _ _ _ _ _ _ _ _ _
-    c.log_refusal-log.ensures
-    c.program_refusal-refused.ensures
-    c.if-refused-ne0.false
+pub returns-clause-left : goal.returns-clause-left
+returns-clause-left c =
+    program-taken _ _ _ _ _ _ _ _
+    c.program_refusal-answer.ensures
+    (is-passed _ _ c.is_err.ensures.value c.if-is_err.false)
     _ _ _ _ _ _ _ _
-    c.program_plan-plan.ensures
+    (plan-is _ _ _ _ _ c.write_plan-plan.ensures)
     c.land_program-touched.ensures
-    c.flag_of.ensures
-    c.flag_of-yes.ensures
-    c.digest-payload.ensures
-    c.record.ensures
+    (byte-flag _ _ c.from.ensures)
+    (answered-flag _ _ _ c.is_ok.ensures.value c.from-2.ensures)
+    c.digest.ensures
+    c.record.ensures.left

@@ -1,15 +1,32 @@
 -- `session_program::program_refusal` meets its contract: the tests in order, the bytes looked at only where none before refuses. Assumes nothing.
-use Rattle.session_program.proofs.Refusals.{program-early, program-late}
+use Rattle.std.proofs.Common.{rules}
+use borrow.Author.Tests.{ne_eqb}
+use Rattle.basics.specs.Tests.{first_of}
+use Rattle.refusals.specs.Nonzero.{refusal-nonzero}
+use Rattle.storage.specs.Nonzero.{error-nonzero}
+use Rattle.session_program.specs.Program.{program_number}
 use Rattle.session_program.proofs.program_refusal.Goals as goal
 
-pub returns-then-early-ne0 : goal.returns-then-early-ne0
-returns-then-early-ne0 c =
-    program-early _ _ _ _ _ _ _ _ _ _ _ _ _
-    c.size_refusal-sizes.ensures c.span_refusal-span.ensures c.number.ensures c.first_of.ensures c.first_of-2.ensures c.first_of-early.ensures
-    c.if-early-ne0.true
+pub returns-in_err-size_refusal : goal.returns-in_err-size_refusal
+unfolding program_number first_of
+returns-in_err-size_refusal c = let h = ne_eqb _ 0 (refusal-nonzero c.in_err-size_refusal.field-0.0) in search rules
+
+pub returns-in_err-refusal : goal.returns-in_err-refusal
+unfolding program_number first_of
+returns-in_err-refusal c = let h = ne_eqb _ 0 (refusal-nonzero c.in_err-refusal.field-0.0) in search rules
+
+pub returns-in_err-refusal-2 : goal.returns-in_err-refusal-2
+unfolding program_number first_of
+returns-in_err-refusal-2 c = let h = ne_eqb _ 0 (refusal-nonzero c.in_err-refusal-2.field-0.0) in search rules
+
+pub returns-in_err-span_refusal : goal.returns-in_err-span_refusal
+unfolding program_number first_of
+returns-in_err-span_refusal c = let h = ne_eqb _ 0 (error-nonzero c.in_err-span_refusal.field-0.0) in search rules
+
+pub returns-in_err-bit_refusal : goal.returns-in_err-bit_refusal
+unfolding program_number first_of
+returns-in_err-bit_refusal c = let h = ne_eqb _ 0 (refusal-nonzero c.in_err-bit_refusal.field-0.0) in search rules
 
 pub returns : goal.returns
-returns c =
-    program-late _ _ _ _ _ _ _ _ _ _ _ _ _
-    c.size_refusal-sizes.ensures c.span_refusal-span.ensures c.number.ensures c.first_of.ensures c.first_of-2.ensures c.first_of-early.ensures
-    c.if-early-ne0.false _ _ _ c.bit_refusal-bit.ensures c.operation_refusal.ensures c.first_of-3.ensures
+unfolding program_number first_of
+returns c = search rules

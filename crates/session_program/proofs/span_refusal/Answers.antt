@@ -1,15 +1,24 @@
 -- `session_program::span_refusal` meets its contract: each way out is one row of the definition's tests. Assumes nothing.
-use Rattle.storage.proofs.Numbers.{geometry-refusal, span-refusal}
-use Rattle.session_program.proofs.Refusals.{span-units, span-buffer, span_rest}
+use Prim.Native.Nat.{◌^◌, ◌≤◌}
+use native.Mathlib.Omega.{arith}
+use Rattle.std.proofs.Common.{rules}
+use borrow.Author.Tests.{le-ltb, lt-ltb, ne_eqb}
+use Rattle.basics.specs.Tests.{unless, first_of}
+use Rattle.storage.specs.Nonzero.{error-nonzero}
+use Rattle.session_program.specs.Program.{span_number}
 use Rattle.session_program.proofs.span_refusal.Goals as goal
 
-pub returns-then-units-ne0 : goal.returns-then-units-ne0
-returns-then-units-ne0 c = span-units _ _ _ _ (geometry-refusal _ _ _ c.check-checked.ensures c.refusal-units.ensures) c.if-units-ne0.true
+pub returns-in_err-check : goal.returns-in_err-check
+unfolding span_number first_of
+returns-in_err-check c = let h = ne_eqb _ 0 (error-nonzero c.in_err-check.field-0.0) in search rules
 
-pub returns-then-bytes-ge4294967296 : goal.returns-then-bytes-ge4294967296
-returns-then-bytes-ge4294967296 c = span-buffer _ _ _ _ (geometry-refusal _ _ _ c.check-checked.ensures c.refusal-units.ensures) c.if-units-ne0.false c.if-bytes-ge4294967296.true
+pub returns-in_default : goal.returns-in_default
+unfolding span_number unless first_of
+returns-in_default c =
+    let long : 2 ^ 32 ≤ c.args.bytes = omega (arith, c.in_default.ensures) in
+    let l = le-ltb c.args.bytes (2 ^ 32) long in
+    search rules
 
 pub returns : goal.returns
-returns c =
-    span_rest _ _ _ _ (geometry-refusal _ _ _ c.check-checked.ensures c.refusal-units.ensures) c.if-units-ne0.false c.if-bytes-ge4294967296.false _
-    (span-refusal _ _ _ _ _ _ c.validate_program-spanned.ensures c.refusal.ensures)
+unfolding span_number unless first_of
+returns c = let l = lt-ltb c.args.bytes (2 ^ 32) c.in-Ok.ensures.0 in search rules

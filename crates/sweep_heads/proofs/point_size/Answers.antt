@@ -2,8 +2,8 @@
 use Rattle.sweep_heads.proofs.Sizes.{none-few, point-few}
 use Rattle.sweep_heads.proofs.point_size.Goals as goal
 
-pub returns-in-Nothing : goal.returns-in-Nothing
-returns-in-Nothing c = rw c.in-Nothing.is none-few
+pub returns-in-None : goal.returns-in-None
+returns-in-None c = rw c.in-None.is none-few
 
-pub returns-in-At : goal.returns-in-At
-returns-in-At c = rw c.in-At.is (point-few c.in-At.injection _ _ c.places-index.ensures c.progress_size-behind.ensures)
+pub returns-in-Some : goal.returns-in-Some
+returns-in-Some c = rw c.in-Some.is (point-few c.in-Some.injection _ _ c.places.ensures c.progress_size.ensures)

@@ -1,43 +1,33 @@
--- `sweep_lines::entries_fit` meets its contract: the fields of the rows from `i` on are to fit into what is left. Assumes nothing.
+-- `sweep_lines::entries_fit` meets its contract: the fields of the rows not yet read are to fit into what is left. Assumes nothing.
+use mathlib.Core.Logic.{inl, inr, ⊎_elim}
 use mathlib.Core.List.{flatten}
-use native.Mathlib.Omega.{arith}
+use borrow.Author.Rules.{rules}
 use lib.ListN.{length}
 use Rattle.model.specs.Columns.{ledger_of}
-use Rattle.pieces.proofs.Rooms.{fit-not, fit-start, fit-room, fit-more, fit-out, fit-end}
+use Rattle.pieces.proofs.Rooms.{fit-start, fit-more, fit-out, fit-end}
 use Rattle.sweep_lines.specs.Fields.{ledger_pieces}
 use Rattle.sweep_lines.proofs.Entries.{rows-size, rows-size-end}
 use Rattle.sweep_lines.proofs.entries_fit.Goals as goal
 
-pub returns-then-not-fitting : goal.returns-then-not-fitting
-returns-then-not-fitting c =
+pub loop-id-init : goal.loop-id-init
+loop-id-init c =
     let a = c.args in
-    fit-not a.size a.at a.room _ c.fits-fitting.ensures
-    (length (flatten (ledger_pieces (ledger_of a.ids.now a.states.now a.torn.now)))) c.if-not-fitting.true-raw
-
-pub overflow_sub-left : goal.overflow_sub-left
-overflow_sub-left c =
-    let a = c.args in
-    omega (arith, fit-room a.size a.at a.room _ c.fits-fitting.ensures 0 c.if-not-fitting.false-raw)
-
-pub overflow_sub-left-2 : goal.overflow_sub-left-2
-overflow_sub-left-2 c =
-    let a = c.args in
-    omega (arith, fit-room a.size a.at a.room _ c.fits-fitting.ensures 0 c.if-not-fitting.false-raw)
-
-pub loop-i-init : goal.loop-i-init
-loop-i-init c =
-    let a = c.args in
-    (omega arith, fit-start a.size a.at a.room _ c.fits-fitting.ensures (length (flatten (ledger_pieces (ledger_of a.ids.now a.states.now a.torn.now)))) c.if-not-fitting.false-raw)
+    let l = a.ledger.now in
+    let t = fit-start a.size a.at a.room _ c.fits.ensures (length (flatten (ledger_pieces (ledger_of l.ids.now l.states.now l.torn.now)))) c.if-not-fits.false in search rules
 
 pub returns-then-left-more : goal.returns-then-left-more
 returns-then-left-more c =
-    fit-out _ _ _ c.loop-i.invariant.1 _ _
-    (rows-size _ _ _ c.requires.0 c.requires.1 _ _ c.entry_size-more.ensures c.loop-i-test.true) c.if-left-more.true
+    let s = c.in-Some.ensures.steps in
+    fit-out _ _ _ c.loop-id.invariant.2 _ _ (rows-size _ _ _ _ _ _ _ _ _ s.0.0 s.0.1 s.1 _ c.entry_size-more.ensures) c.if-left-more.true
 
-pub loop-i-preserved : goal.loop-i-preserved
-loop-i-preserved c =
-    (omega arith, fit-more _ _ _ c.loop-i.invariant.1 _ _ (rows-size _ _ _ c.requires.0 c.requires.1 _ _ c.entry_size-more.ensures c.loop-i-test.true) c.if-left-more.false)
+pub loop-id-preserved : goal.loop-id-preserved
+loop-id-preserved c =
+    let s = c.in-Some.ensures.steps in (
+      c.loop-id.invariant.0,
+      tt,
+      fit-more _ _ _ c.loop-id.invariant.2 _ _ (rows-size _ _ _ _ _ _ _ _ _ s.0.0 s.0.1 s.1 _ c.entry_size-more.ensures) c.if-left-more.false,
+    )
 
 pub returns : goal.returns
 returns c =
-    fit-end _ _ _ c.loop-i.invariant.1 (rows-size-end _ _ _ c.requires.0 c.requires.1 _ c.loop-i-test.false)
+    fit-end _ _ _ c.loop-id.invariant.2 (rows-size-end _ _ _ (⊎_elim (λ w. inl (⊎_elim (λ v. inl v.1.0) (λ v. inr v.1.0) w.1)) (λ w. inr w.1.0) c.in-None.ensures.steps))

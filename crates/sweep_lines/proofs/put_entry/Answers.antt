@@ -2,14 +2,14 @@
 use Rattle.sweep_lines.proofs.Entries.{entry-torn, entry_whole}
 use Rattle.sweep_lines.proofs.put_entry.Goals as goal
 
-pub returns-then-marked : goal.returns-then-marked
-returns-then-marked c =
+pub returns-then-is_torn-clause-put : goal.returns-then-is_torn-clause-put
+returns-then-is_torn-clause-put c =
     let a = c.args in
-    entry-torn a.id a.state a.torn _ c.state_letter-letter.ensures _ c.is_torn-marked.ensures _ _ _
-    c.put_field-named.ensures c.put_byte-stated.ensures c.if-marked.true _ c.put_byte.ensures
+    entry-torn a.id a.state a.torn _ c.state_letter.ensures _ c.is_torn.ensures _ _ _
+    c.put_field.ensures.put c.put_byte.ensures.put c.if-is_torn.true _ c.put_byte-then-is_torn.ensures.put
 
-pub returns : goal.returns
-returns c =
+pub returns-else-is_torn-clause-put : goal.returns-else-is_torn-clause-put
+returns-else-is_torn-clause-put c =
     let a = c.args in
-    entry_whole a.id a.state a.torn _ c.state_letter-letter.ensures _ c.is_torn-marked.ensures _ _ _
-    c.put_field-named.ensures c.put_byte-stated.ensures c.if-marked.false
+    entry_whole a.id a.state a.torn _ c.state_letter.ensures _ c.is_torn.ensures _ _ _
+    c.put_field.ensures.put c.put_byte.ensures.put c.if-is_torn.false

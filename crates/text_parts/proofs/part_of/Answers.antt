@@ -2,10 +2,10 @@
 use Rattle.text_parts.proofs.Steps.{read-refused, read-swept}
 use Rattle.text_parts.proofs.part_of.Goals as goal
 
-pub returns-in-Refused : goal.returns-in-Refused
-returns-in-Refused c =
-    read-refused c.args.judged c.args.text.now c.args.from c.args.out.now _ _ c.read_script-answer.ensures _ _ c.in-Refused.is _ _ c.refused_part.ensures
+pub returns-in-Err : goal.returns-in-Err
+returns-in-Err c =
+    read-refused c.args.judged c.args.text.now c.args.from c.args.out.now _ _ c.read_script.ensures.left _ c.in-Err.is _ c.number.ensures _ c.refused_part.ensures
 
-pub returns-in-Read : goal.returns-in-Read
-returns-in-Read c =
-    read-swept c.args.judged c.args.text.now c.args.from c.args.out.now _ _ c.read_script-answer.ensures _ _ _ c.in-Read.is _ _ c.swept_part.ensures
+pub returns-in-Ok : goal.returns-in-Ok
+returns-in-Ok c =
+    read-swept c.args.judged c.args.text.now c.args.from c.args.out.now _ _ c.read_script.ensures.left _ c.in-Ok.is _ c.seen.ensures _ c.swept_part.ensures

@@ -1,8 +1,0 @@
--- `held::counts_short` meets its contract. Assumes nothing.
-use mathlib.Core.Path.{refl}
-use Rattle.ledger.specs.Ledger.{counts_short}
-use Rattle.held.proofs.counts_short.Goals as goal
-
-pub returns : goal.returns
-unfolding counts_short
-returns c = refl

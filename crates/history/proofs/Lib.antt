@@ -1,2 +1,0 @@
--- Laws that belong to no one function, each under what it is about.
-pub mod Kept

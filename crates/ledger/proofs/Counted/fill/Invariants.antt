@@ -1,0 +1,16 @@
+-- `ledger::Counted::fill` meets its contract: what is left to be entered, entered here, gives what all of it gives at the start. Assumes nothing.
+use mathlib.Core.Path.{◌≡◌}
+use Prim.Native.Nat.{◌≤◌}
+use lib.ListN.{drop}
+use Rattle.model.specs.Lent.{SameLedger}
+use Rattle.ledger.specs.Ledger.{entered_in}
+use Rattle.ledger.specs.Scans.{filled, fill_from}
+use Rattle.ledger.proofs.Counted.fill.Given as goal
+
+abbrev pub invariant-loop-at : goal.invariant-loop-at
+invariant-loop-at l = record {
+  few : l.n ≤ l.at;
+  same : SameLedger l.initial.entries l.entries;
+  rest : fill_from l.self.facts l.self.kinds.now l.self.changed.now (drop l.at l.self.codes.now) (drop l.at l.self.ids.now) (drop l.at l.self.places.now) (filled l.n (entered_in l.entries))
+      ≡ fill_from l.self.facts l.self.kinds.now l.self.changed.now l.self.codes.now l.self.ids.now l.self.places.now (filled 0 (entered_in l.initial.entries));
+}

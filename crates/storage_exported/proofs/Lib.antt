@@ -1,2 +1,0 @@
--- Laws that the exported functions' proofs cite.
-pub mod StorageNumbers

@@ -1,4 +1,0 @@
-pub mod Thin
-pub mod While
-pub mod Again
-pub mod Local
