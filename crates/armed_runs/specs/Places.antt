@@ -1,9 +1,8 @@
 -- Document 01: "its place among the runs (0 is the fault-free run, then the crash points in order)". Definitions only; assumes nothing.
-use Rattle.std.specs.Prelude.{List, ℕ, zero, suc, Result, Ok, Err}
+use Rattle.std.specs.Prelude.{List, ℕ, zero, suc, Result, Ok, Err, None as Nothing, Some as At}
 use Rattle.storage.specs.declared.Geometry.{Geometry}
 use Rattle.inject.specs.declared.Injection.{Injection}
 use Rattle.inject.specs.Answers.{counted, found}
-use Rattle.std.specs.Prelude.{None as Nothing, Some as At}
 use Rattle.session.specs.Armed.{Armed}
 
 -- what is armed, or the number that refuses the place

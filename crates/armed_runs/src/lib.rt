@@ -17,6 +17,8 @@ use storage::Geometry;
 
 // ---- what a session is told
 
+// By the flag itself: through a number (`OneWayBits::from(u32::from(rejected))`) a reader has to know which of the two 1 is, and
+// a `From<bool>` would hide the same.
 fn rule_of(rejected: bool) -> OneWayBits
     ensures { result ≡ rule_of rejected }
 {

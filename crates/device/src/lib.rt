@@ -8,6 +8,7 @@
 ghost use Rattle.std.specs.Prelude.{◌≡◌, not, length, replicate};
 ghost use Rattle.device.specs.Media.{ff, new_media, anded, any_pair, unequal, Applied, applied, programmed, erased, postimage, erase_would_change};
 ghost use Rattle.device.specs.Answers.{Copied, copied};
+ghost use Rattle.device.specs.Codes.{rule_of};
 ghost use Rattle.basics.specs.Replies.{numbered};
 ghost use Rattle.refusals.specs.Numbers.{number_of};
 
@@ -29,6 +30,18 @@ pub enum OneWayBits {
     Rejected,
 }
 
+// The bit rule of a number.
+impl From<u32> for OneWayBits {
+    ghost from_gives = { λ number rule. rule ≡ rule_of number };
+
+    fn from(number: u32) -> OneWayBits {
+        match number {
+            0 => OneWayBits::Absorbed,
+            _ => OneWayBits::Rejected,
+        }
+    }
+}
+
 // Makes the media those of a new device: every cell becomes ERASED.
 pub fn fill_erased(media: &mut [u8])
     ensures { media.new ≡ new_media (length media.old) }
@@ -37,7 +50,9 @@ pub fn fill_erased(media: &mut [u8])
 }
 
 // Each cell becomes cell AND byte. Tells whether a cell changed, which is not whether bytes were offered: 0xFF over
-// anything changes nothing. (By index: of what a `zip` of `iter_mut` wrote a proof knows the length alone.)
+// anything changes nothing. (By index: of what a `zip` of `iter_mut` wrote a proof knows the length alone. Four private
+// functions here and in `device_questions` ask for two slices of one length: this one writes one of the two, so one struct would not
+// serve all.)
 fn and_cells(cells: &mut [u8], src: &[u8]) -> bool
     requires { length cells.old ≡ length src.now }
     ensures { ◌≡◌ {A = Applied} (record { media = cells.new; changed = result }) (applied cells.old (anded cells.old src.now)) }
@@ -77,7 +92,8 @@ fn any_written(cells: &[u8]) -> bool
     found
 }
 
-// Whether every cell is ERASED, block by block.
+// Whether every cell is ERASED, block by block. (Each scan by blocks stands by itself: `device_questions` has two slices at once,
+// `id_columns` and `hex_pairs` other blocks and a place for an answer, so one function for all would take two closures and a size.)
 fn slice_is_erased(cells: &[u8]) -> bool
     ensures { result ≡ not (any_pair unequal cells.now (replicate (length cells.now) ff)) }
 {
@@ -108,7 +124,7 @@ pub fn apply_erase(media: &mut [u8], offset: u32, len: u32) -> bool
 }
 
 // What programming `src` over `cells` would leave, into a buffer of that length. (A copy of the cells and then `and_cells` take
-// twice as long.)
+// twice as long; by index, as there.)
 fn and_into(cells: &[u8], src: &[u8], out: &mut [u8])
     requires { (length cells.now ≡ length src.now) × (length out.old ≡ length src.now) }
     ensures { out.new ≡ anded cells.now src.now }

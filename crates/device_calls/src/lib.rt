@@ -1,6 +1,7 @@
 // The device's own calls: a call that the geometry forbids never reaches the media. Follows waymaker-fault's device.rs. Where
 // the Rust's Device owns its bytes, its geometry and its bit rule, here the caller hands them in, so each call tests the
-// geometry and the media's length too (1 to 3, 7). Every contract is an equation: the whole reply and what every lent slice
+// geometry and the media's length too (1 to 3, 7); the media are lent to be read by two calls and to be written by the others, so no
+// one struct has both. Every contract is an equation: the whole reply and what every lent slice
 // holds at the end, after a refusal too.
 #![tactic(auto)]
 
@@ -18,7 +19,8 @@ use device::OneWayBits;
 use refusals::Refusal;
 use storage::{Geometry, GeometryError};
 
-// Anything a modelled device can refuse to do.
+// Anything a modelled device can refuse to do. (The Rust's own enum, which document 01 keeps beside the refusals; the last three are made
+// by no call here.)
 #[derive(Clone, Copy, Debug, PartialEq, Eq)]
 pub enum FaultError {
     // The operation is not one this geometry permits.

@@ -5,12 +5,11 @@
 // The tables and the order of the cases are those of `sample` in tests/differential/src/device.rs.
 #![tactic(auto)]
 
-ghost use Rattle.std.specs.Prelude.{◌<◌};
-
 use basics::number_in;
 use device::OneWayBits;
+use device_calls::FaultError;
 use std::io;
-use storage::Geometry;
+use storage::{Geometry, units};
 
 const OFFSETS: [u32; 7] = [0, 2, 4, 8, 15, 16, 4294967292];
 
@@ -28,22 +27,14 @@ fn print_bytes(rt: &impl Print, bytes: &[u8]) -> io::Result<()> {
 }
 
 // Bytes of the table, from a place on and around.
-fn of_table(bytes: &mut [u8], from: usize)
-    requires { from < 1000 }
-{
-    for i in 0..bytes.len() {
-        bytes[i] = BYTES[(from + i % 16) % 16];
+fn of_table(bytes: &mut [u8], from: usize) {
+    for (i, byte) in bytes.iter_mut().enumerate() {
+        *byte = BYTES[(from % 16 + i % 16) % 16];
     }
 }
 
-fn rule_of(rule: u32) -> OneWayBits {
-    match rule {
-        0 => OneWayBits::Absorbed,
-        _ => OneWayBits::Rejected,
-    }
-}
-
-// What stands before an answer: the call's kind, the rule, the capacity, the cells lent, and the span.
+// What stands before an answer: the call's kind, the rule, the capacity, the cells lent, and the span. (Rule and kind as the numbers that
+// the line shows.)
 fn print_call(
     rt: &impl Print,
     kind: usize,
@@ -57,29 +48,33 @@ fn print_call(
     print!(rt; "{kind} {rule} {capacity} {cells} {offset} {len} ")
 }
 
+// The end of a call's line: what refused it, and the bytes.
+fn print_answer(rt: &impl Print, answer: Result<(), FaultError>, bytes: &[u8]) -> io::Result<()> {
+    let refused = number_in(answer);
+    print!(rt; "{refused} ")?;
+    print_bytes(rt, bytes)
+}
+
 fn program_case(
     rt: &impl Print,
     geometry: Geometry,
     rule: u32,
     media: &mut [u8],
     place: usize,
-) -> io::Result<()>
-    requires { place < 63 }
-{
-    let offset = OFFSETS[place / 9];
+) -> io::Result<()> {
+    let offset = OFFSETS[place / 9 % 7];
     let len = place % 9;
     let mut src = [0u8; 8];
     of_table(&mut src, place);
     print_call(rt, 0, rule, geometry, media.len(), offset, len)?;
-    let refused = number_in(device_calls::program(
+    let answer = device_calls::program(
         geometry,
-        rule_of(rule),
+        OneWayBits::from(rule),
         media,
         offset,
         &src[..len],
-    ));
-    print!(rt; "{refused} ")?;
-    print_bytes(rt, media)
+    );
+    print_answer(rt, answer, media)
 }
 
 fn read_into(
@@ -91,9 +86,8 @@ fn read_into(
     dst: &mut [u8],
 ) -> io::Result<()> {
     print_call(rt, 1, rule, geometry, media.len(), offset, dst.len())?;
-    let refused = number_in(device_calls::read(geometry, media, offset, dst));
-    print!(rt; "{refused} ")?;
-    print_bytes(rt, dst)
+    let answer = device_calls::read(geometry, media, offset, dst);
+    print_answer(rt, answer, dst)
 }
 
 // The buffer's bytes are 90 before.
@@ -103,10 +97,8 @@ fn read_case(
     rule: u32,
     media: &[u8],
     place: usize,
-) -> io::Result<()>
-    requires { place < 63 }
-{
-    let offset = OFFSETS[place / 9];
+) -> io::Result<()> {
+    let offset = OFFSETS[place / 9 % 7];
     let len = place % 9;
     let mut buffer = [90u8; 8];
     read_into(rt, geometry, rule, media, offset, &mut buffer[..len])
@@ -118,15 +110,12 @@ fn erase_case(
     rule: u32,
     media: &mut [u8],
     place: usize,
-) -> io::Result<()>
-    requires { place < 63 }
-{
-    let offset = OFFSETS[place / 9];
+) -> io::Result<()> {
+    let offset = OFFSETS[place / 9 % 7];
     let len = place % 9;
     print_call(rt, 2, rule, geometry, media.len(), offset, len)?;
-    let refused = number_in(device_calls::erase(geometry, media, offset, len as u32));
-    print!(rt; "{refused} ")?;
-    print_bytes(rt, media)
+    let answer = device_calls::erase(geometry, media, offset, len as u32);
+    print_answer(rt, answer, media)
 }
 
 // The calls on one device, each on the media as the one before left them.
@@ -138,18 +127,8 @@ fn calls(rt: &impl Print, geometry: Geometry, rule: u32, media: &mut [u8]) -> io
         erase_case(rt, geometry, rule, media, place)?;
     }
     print_call(rt, 3, rule, geometry, media.len(), 0, 0)?;
-    let refused = number_in(device_calls::barrier(geometry, media));
-    print!(rt; "{refused} ")?;
-    print_bytes(rt, media)
-}
-
-fn units(capacity: u32, erase: u32, program: u32, read: u32) -> Geometry {
-    Geometry {
-        capacity,
-        erase_size: erase,
-        program_size: program,
-        read_size: read,
-    }
+    let answer = device_calls::barrier(geometry, media);
+    print_answer(rt, answer, media)
 }
 
 // Two devices, units that do not nest, media shorter than the capacity, and units of 0 with media.
@@ -191,9 +170,7 @@ fn print_postimage(rt: &impl Print, media: &[u8], offset: u32, src: &[u8]) -> io
 }
 
 // A part of twelve cells, and bytes for it.
-fn question_case(rt: &impl Print, media: [u8; 12], place: usize) -> io::Result<()>
-    requires { place < 140 }
-{
+fn question_case(rt: &impl Print, media: [u8; 12], place: usize) -> io::Result<()> {
     let offset = (place / 5 % 14) as u32;
     let len = place % 5;
     let mut src = [0u8; 4];
@@ -211,21 +188,17 @@ fn question_case(rt: &impl Print, media: [u8; 12], place: usize) -> io::Result<(
     print_bytes(rt, &erased)
 }
 
-// Of erased media.
-fn erased_cases(rt: &impl Print) -> io::Result<()> {
-    let erased = [0xFFu8; 12];
-    for place in 0..70 {
-        question_case(rt, erased, place)?;
-    }
-    Ok(())
-}
-
-// Of media with bytes of the table.
-fn written_cases(rt: &impl Print) -> io::Result<()> {
+// Of erased media, and then of media with bytes of the table: every part.
+fn question_cases(rt: &impl Print) -> io::Result<()> {
     let mut written = [0u8; 12];
     of_table(&mut written, 5);
-    for place in 70..140 {
-        question_case(rt, written, place)?;
+    for place in 0..140 {
+        let media = if place < 70 {
+            [device::ERASED; 12]
+        } else {
+            written
+        };
+        question_case(rt, media, place)?;
     }
     Ok(())
 }
@@ -233,6 +206,5 @@ fn written_cases(rt: &impl Print) -> io::Result<()> {
 fn main(rt: HostRuntime) -> io::Result<()> {
     devices(&rt, 0)?;
     devices(&rt, 1)?;
-    erased_cases(&rt)?;
-    written_cases(&rt)
+    question_cases(&rt)
 }

@@ -2,7 +2,8 @@
 // slices in, a number out. Each function takes the layer's values from numbers, makes one call, and gives the answer as
 // numbers, so that a comparison of the numbers is one of the layer: a geometry is its four units, a bit rule is 0 for
 // Absorbed and any other number for Rejected, a yes or no is 1 or 0, and any other answer is document 01's number, 0 where
-// nothing is refused. A slice crosses as a pointer, then a length.
+// nothing is refused. A slice crosses as a pointer, then a length, and a geometry as its units. (A function that
+// gives a value matches its answer for itself: the arms show what a refusal leaves.)
 #![tactic(auto)]
 
 ghost use Rattle.std.specs.Prelude.{◌≡◌, length};
@@ -15,29 +16,6 @@ ghost use Rattle.device_exported.specs.Device.{rule_of, count_over};
 
 use basics::{Numbered, number_in};
 use device::OneWayBits;
-use storage::Geometry;
-
-// The geometry of four units.
-fn units(capacity: u32, erase: u32, program: u32, read: u32) -> Geometry
-    ensures { result ≡ geometry_of capacity erase program read }
-{
-    Geometry {
-        capacity,
-        erase_size: erase,
-        program_size: program,
-        read_size: read,
-    }
-}
-
-// The bit rule of a number.
-fn rule_of(rule: u32) -> OneWayBits
-    ensures { result ≡ rule_of rule }
-{
-    match rule {
-        0 => OneWayBits::Absorbed,
-        _ => OneWayBits::Rejected,
-    }
-}
 
 // `fill_erased`: the media of a new device.
 #[unsafe(no_mangle)]
@@ -120,7 +98,7 @@ pub extern "C" fn device_read(
 ) -> u32
     ensures { (result ≡ read_refusal (geometry_of capacity erase program read) (length media.now) offset (length dst.old)) × (dst.new ≡ (read_call (geometry_of capacity erase program read) media.now offset dst.old).content) }
 {
-    let geometry = units(capacity, erase, program, read);
+    let geometry = storage::units(capacity, erase, program, read);
     number_in(device_calls::read(geometry, media, offset, dst))
 }
 
@@ -138,8 +116,8 @@ pub extern "C" fn device_program(
 ) -> u32
     ensures { (result ≡ program_refusal (geometry_of capacity erase program read) (rule_of rule) media.old offset src.now) × (media.new ≡ (program_call (geometry_of capacity erase program read) (rule_of rule) media.old offset src.now).content) }
 {
-    let geometry = units(capacity, erase, program, read);
-    let bits = rule_of(rule);
+    let geometry = storage::units(capacity, erase, program, read);
+    let bits = OneWayBits::from(rule);
     number_in(device_calls::program(geometry, bits, media, offset, src))
 }
 
@@ -156,7 +134,7 @@ pub extern "C" fn device_erase(
 ) -> u32
     ensures { (result ≡ erase_refusal (geometry_of capacity erase program read) (length media.old) offset len) × (media.new ≡ (erase_call (geometry_of capacity erase program read) media.old offset len).content) }
 {
-    let geometry = units(capacity, erase, program, read);
+    let geometry = storage::units(capacity, erase, program, read);
     number_in(device_calls::erase(geometry, media, offset, len))
 }
 
@@ -171,6 +149,6 @@ pub extern "C" fn device_barrier(
 ) -> u32
     ensures { result ≡ barrier_refusal (geometry_of capacity erase program read) (length media.now) }
 {
-    let geometry = units(capacity, erase, program, read);
+    let geometry = storage::units(capacity, erase, program, read);
     number_in(device_calls::barrier(geometry, media))
 }

@@ -8,7 +8,8 @@ ghost use Rattle.device.specs.Media.{any_pair, sets_a_bit, would_set_a_bit, diff
 
 use device::BLOCK;
 
-// Whether some byte has a 1 where its cell has 0. Looks at every byte.
+// Whether some byte has a 1 where its cell has 0. Looks at every byte. (That the two slices are of one length is asked as in
+// `device`.)
 fn any_sets(cells: &[u8], src: &[u8]) -> bool
     requires { length cells.now ≡ length src.now }
     ensures { result ≡ any_pair sets_a_bit cells.now src.now }

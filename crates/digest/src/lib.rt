@@ -11,7 +11,7 @@ pub const OFFSET_BASIS: u64 = 0xcbf2_9ce4_8422_2325;
 // FNV's 64-bit prime.
 pub const PRIME: u64 = 0x100_0000_01b3;
 
-// The product modulo 2^64: the one multiplication of the program that may wrap.
+// The product modulo 2^64: the one multiplication of the program that may wrap. (std's method is all of it; it is public from before.)
 pub fn wrapping_mul(a: u64, b: u64) -> u64
     ensures { result ≡ a * b % 2 ^ 64 }
 {

@@ -6,24 +6,13 @@
 ghost use Rattle.std.specs.Prelude.{◌≡◌};
 ghost use Rattle.basics.specs.Replies.{numbered};
 ghost use Rattle.refusals.specs.Numbers.{number_of};
-ghost use Rattle.model.specs.Columns.{state_of};
 ghost use Rattle.first_entries.specs.Answers.{state_asked, torn_asked};
 
 use model::{Durability, LedgerRef};
 use refusals::Refusal;
 
-// The state that a code stands for. No code above 2 is left to ask: `refusal` comes first.
-fn durability_of(code: u8) -> Durability
-    ensures { result ≡ state_of code }
-{
-    match code {
-        0 => Durability::Attempted,
-        1 => Durability::PossiblyDurable,
-        _ => Durability::Acknowledged,
-    }
-}
-
-// The state that `id` ended in: that of its first entry. None where it has no entry.
+// The state that `id` ended in: that of its first entry. None where it has no entry. (`torn` asks alike: one function for both would take a
+// closure that indexes a column, and require that it may.)
 pub fn state(ledger: &LedgerRef<'_>, id: u32) -> Result<Option<Durability>, Refusal>
     ensures { numbered number_of result ≡ state_asked ledger.now.ids.now ledger.now.states.now ledger.now.torn.now id }
 {
@@ -31,7 +20,7 @@ pub fn state(ledger: &LedgerRef<'_>, id: u32) -> Result<Option<Durability>, Refu
     let Some(at) = id_columns::first_place(ledger.ids, id) else {
         return Ok(None);
     };
-    Ok(Some(durability_of(ledger.states[at])))
+    Ok(Some(Durability::from(ledger.states[at])))
 }
 
 // Whether some of `id`'s bytes are on media and the rest are not, by its first entry. Never so where the state is attempted.
@@ -42,5 +31,6 @@ pub fn torn(ledger: &LedgerRef<'_>, id: u32) -> Result<Option<bool>, Refusal>
     let Some(at) = id_columns::first_place(ledger.ids, id) else {
         return Ok(None);
     };
-    Ok(Some((ledger.states[at] != 0) & (ledger.torn[at] == 1)))
+    let attempted = ledger.states[at] == Durability::Attempted as u8;
+    Ok(Some(!attempted & (ledger.torn[at] == 1)))
 }

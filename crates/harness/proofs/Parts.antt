@@ -7,9 +7,8 @@ use native.Mathlib.Omega.{arith}
 use lib.ListN.{length, take}
 use borrow.Author.Tests.{ne_eqb}
 use Rattle.landing.specs.declared.Stop.{Stop}
-use Rattle.std.specs.Prelude.{Result, Ok as Points, Err as NotCounted}
+use Rattle.std.specs.Prelude.{Result, Ok as Points, Err as NotCounted, None as Nothing}
 use Rattle.inject.specs.Answers.{counted}
-use Rattle.std.specs.Prelude.{None as Nothing}
 use Rattle.ledger.specs.Ledger.{Entered, entered_of}
 use Rattle.script.specs.declared.Head.{Head}
 use Rattle.script.specs.Calls.{Call}

@@ -1,17 +1,14 @@
 -- Document 01, "Scripts and the two programs": the fault-free run, and whether there is a sweep. Definitions only; assumes nothing.
-use Rattle.std.specs.Prelude.{cond, List, Result, Ok, Err, Ok as Points, Err as NotCounted, ℕ, take}
+use Rattle.std.specs.Prelude.{cond, List, Result, Ok, Err, Ok as Points, Err as NotCounted, ℕ, take, None as Nothing}
 use Rattle.refusals.specs.declared.Refusal.{Refusal}
 use Rattle.refusals.specs.Numbers.{number_of}
 use Rattle.harness.specs.declared.Sweep.{Sweep}
 use Rattle.inject.specs.Answers.{counted}
-use Rattle.std.specs.Prelude.{None as Nothing}
 use Rattle.script.specs.declared.Head.{Head}
 use Rattle.script.specs.Calls.{Call}
 use Rattle.script.specs.Columns.{Columns}
 use Rattle.script.specs.Held.{calls_in}
-use Rattle.harness_runs.specs.Running.{Ran}
-use Rattle.harness_runs.specs.Running.{Ended, NotRun}
-use Rattle.harness_runs.specs.Running.{zeros, RunLeft, run_call, no_entries, cells}
+use Rattle.harness_runs.specs.Running.{Ran, Ended, NotRun, zeros, RunLeft, run_call, no_entries, cells}
 use Rattle.sweeps.specs.Decided.{meets26}
 
 -- how many operations the fault-free run recorded, and how many crash points they have; or the number that refuses the sweep

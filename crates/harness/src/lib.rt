@@ -3,17 +3,19 @@
 // `armed_runs` what is armed in each.
 #![tactic(auto)]
 
-ghost use Rattle.std.specs.Prelude.{◌≡◌, ◌≤◌, min, length};
+ghost use Rattle.std.specs.Prelude.{◌≡◌, length};
 ghost use Rattle.script.specs.Lent.{columns_seen};
 ghost use Rattle.script.specs.Held.{calls_in};
 ghost use Rattle.rows.specs.Ready.{Ready};
 ghost use Rattle.sweeps.specs.Decided.{range_behind};
 ghost use Rattle.harness.specs.Opening.{opened_as, open_points, open_left, open_call};
-ghost use Rattle.harness.specs.Inner.{is_behind, ops_in};
+ghost use Rattle.harness.specs.Inner.{is_behind};
 
+use harness_runs::{Entries, Recorded, Writer};
 use inject::OpsRef;
 use refusals::Refusal;
-use script::{CallsRef, Head};
+use script::CallsRef;
+use session::MARKS;
 
 // A sweep: how many operations its fault-free run recorded, and how many crash points they have.
 #[derive(Clone, Copy, Debug, PartialEq, Eq)]
@@ -31,41 +33,29 @@ fn is_behind(kind: u8, from: u32, to: u32, operations: usize) -> bool
     (kind >= 5) & (((from as usize) < operations) | ((to as usize) < operations))
 }
 
-// How many operations a row is: none, if it is a mark.
-fn operations_in(kind: u8) -> usize
-    ensures { (result ≡ ops_in kind) × (result ≤ 1) }
-{
-    if kind >= 3 { 0 } else { 1 }
-}
-
-// Whether some row marks a range that begins or ends before an operation of an earlier row.
+// Whether some row marks a range that begins or ends before an operation of an earlier row. A mark is no operation.
 fn range_behind(rows: usize, calls: &CallsRef<'_>) -> bool
     requires { Ready rows (columns_seen calls.now) }
     ensures { result ≡ range_behind 0 (calls_in rows (columns_seen calls.now)) }
 {
+    let kinds = &calls.kinds[..rows];
     let mut operations: usize = 0;
-    for i in 0..rows {
-        let kind = calls.kinds[i];
-        if is_behind(kind, calls.seconds[i], calls.thirds[i], operations) {
+    for ((kind, from), to) in kinds.iter().zip(calls.seconds).zip(calls.thirds) {
+        if is_behind(*kind, *from, *to, operations) {
             return true;
         }
-        operations += operations_in(kind);
+        operations += usize::from(*kind < 3);
     }
     false
 }
 
 // What a fault-free run that did not fail opens: its crash points, or 26.
-fn open_points(
-    head: Head,
-    operations: usize,
-    rows: usize,
-    calls: &CallsRef<'_>,
-    ops: &OpsRef<'_>,
-) -> Result<Sweep, Refusal>
-    requires { (Ready rows (columns_seen calls.now)) × (length ops.now.offsets.now ≡ length ops.now.kinds.now) × (length ops.now.lens.now ≡ length ops.now.kinds.now) }
-    ensures { opened_as result ≡ open_points head operations (calls_in rows (columns_seen calls.now)) ops.now.kinds.now ops.now.offsets.now ops.now.lens.now }
+fn open_points(writer: &Writer<'_>, operations: usize, ops: &OpsRef<'_>) -> Result<Sweep, Refusal>
+    requires { (Ready writer.now.rows (columns_seen writer.now.calls)) × (length ops.now.offsets.now ≡ length ops.now.kinds.now) × (length ops.now.lens.now ≡ length ops.now.kinds.now) }
+    ensures { opened_as result ≡ open_points writer.now.head operations (calls_in writer.now.rows (columns_seen writer.now.calls)) ops.now.kinds.now ops.now.offsets.now ops.now.lens.now }
 {
-    if !head.carries_on & range_behind(rows, calls) {
+    let head = writer.head;
+    if !head.carries_on & range_behind(writer.rows, &writer.calls) {
         return Err(Refusal::Diverged);
     }
     let n = basics::lower(operations, ops.kinds.len());
@@ -78,43 +68,28 @@ fn open_points(
     Ok(Sweep { operations, points })
 }
 
-// Opens a sweep: the fault-free run of a script's rows. Its operations are left in the log.
+// Opens a sweep: the writer's fault-free run. Leaves the operations recorded.
 pub fn open_sweep(
-    head: Head,
-    rows: usize,
-    calls: &CallsRef<'_>,
+    writer: &Writer<'_>,
     media: &mut [u8],
     copy: &mut [u8],
-    ops: &mut [u8; 1024],
-    spans: &mut [u32; 1024],
-    sizes: &mut [u32; 1024],
+    recorded: &mut Recorded,
 ) -> Result<Sweep, Refusal>
-    ensures { open_left (opened_as result) media.new copy.new ops.new spans.new sizes.new ≡ open_call head rows (columns_seen calls.now) media.old copy.old ops.old spans.old sizes.old }
+    ensures { open_left (opened_as result) media.new copy.new recorded.new.kinds recorded.new.offsets recorded.new.lens ≡ open_call writer.now.head writer.now.rows (columns_seen writer.now.calls) media.old copy.old recorded.old.kinds recorded.old.offsets recorded.old.lens }
 {
-    let mut ids = [0u32; 512];
-    let mut states = [0u8; 512];
-    let mut torn = [0u8; 512];
-    let run = harness_runs::run_one(
-        head,
-        None,
-        rows,
-        calls,
-        media,
-        copy,
-        ops,
-        spans,
-        sizes,
-        &mut ids,
-        &mut states,
-        &mut torn,
-    )?;
+    let mut entries = Entries {
+        ids: [0; MARKS],
+        states: [0; MARKS],
+        torn: [0; MARKS],
+    };
+    let run = harness_runs::run_one(writer, None, media, copy, recorded, &mut entries)?;
     if run.failed {
         return Err(Refusal::WriterFailed);
     }
-    let recorded = OpsRef {
-        kinds: ops,
-        offsets: spans,
-        lens: sizes,
+    let ops = OpsRef {
+        kinds: &recorded.kinds,
+        offsets: &recorded.offsets,
+        lens: &recorded.lens,
     };
-    open_points(head, run.operations, rows, calls, &recorded)
+    open_points(writer, run.operations, &ops)
 }

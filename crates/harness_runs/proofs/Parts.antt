@@ -12,8 +12,7 @@ use Rattle.session.specs.declared.Told.{Told}
 use Rattle.session.specs.declared.Counters.{Counters}
 use Rattle.session.specs.Log.{Log, log_of, Marks, marks_of}
 use Rattle.session.specs.Start.{fresh}
-use Rattle.ledger.specs.Ledger.{Derived}
-use Rattle.ledger.specs.Ledger.{Entered, Ledgered, ledgered, ledger_call}
+use Rattle.ledger.specs.Ledger.{Derived, Entered, Ledgered, ledgered, ledger_call}
 use Rattle.threaded.specs.Threaded.{Session}
 use Rattle.script.specs.declared.Head.{Head}
 use Rattle.script.specs.Columns.{Columns}
@@ -25,9 +24,7 @@ use Rattle.runner.specs.declared.Ended.{Ended}
 use Rattle.runner.specs.Run.{tasks_in, ran_rows, Leaves, left_of, leaves}
 use Rattle.runner.proofs.Lines.{tasks-calls, wrote_by, writes}
 use Rattle.sweeps.specs.Sweep.{told_by}
-use Rattle.harness_runs.specs.Running.{Ran}
-use Rattle.harness_runs.specs.Running.{NotRun}
-use Rattle.harness_runs.specs.Running.{zeros, ended_by, run_left, left_by, ledgered_with, opening, run_number, run_call}
+use Rattle.harness_runs.specs.Running.{Ran, NotRun, zeros, ended_by, run_left, left_by, ledgered_with, opening, run_number, run_call}
 
 -- a session's own columns of zeros
 pub zeros-are : (n : ℕ) → replicate n 0 ≡ zeros n

@@ -1,5 +1,5 @@
 -- Document 01, "Scripts and the two programs": a script's run with at most one injection, and its ledger. Definitions only; assumes nothing.
-use Rattle.std.specs.Prelude.{Bool, false, cond, List, Result, Ok, Err, ℕ, length, take, replicate, eqb}
+use Rattle.std.specs.Prelude.{Bool, false, cond, List, Result, Ok, Err, ℕ, length, take, replicate, eqb, Ok as Entries, Err as NotDerived}
 use Rattle.device.specs.Media.{new_media}
 use Rattle.refusals.specs.declared.Refusal.{Refusal}
 use Rattle.refusals.specs.Numbers.{number_of}
@@ -10,9 +10,7 @@ use Rattle.session.specs.declared.Told.{Told}
 use Rattle.session.specs.declared.Counters.{Counters}
 use Rattle.session.specs.Log.{log_of, marks_of}
 use Rattle.session.specs.Start.{fresh}
-use Rattle.ledger.specs.Ledger.{Derived}
-use Rattle.std.specs.Prelude.{Ok as Entries, Err as NotDerived}
-use Rattle.ledger.specs.Ledger.{Entered, entered_of, Ledgered}
+use Rattle.ledger.specs.Ledger.{Derived, Entered, entered_of, Ledgered}
 use Rattle.threaded.specs.Threaded.{Session, session_ledgered}
 use Rattle.script.specs.declared.Head.{Head}
 use Rattle.script.specs.Columns.{Columns}

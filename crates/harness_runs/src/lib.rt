@@ -5,7 +5,6 @@
 
 ghost use Rattle.std.specs.Prelude.{◌≡◌};
 ghost use Rattle.script.specs.Lent.{columns_seen};
-ghost use Rattle.session.specs.Start.{fresh};
 ghost use Rattle.ledger.specs.Ledger.{entered_of};
 ghost use Rattle.harness_runs.specs.Running.{ran_as, run_left, run_call};
 
@@ -13,9 +12,34 @@ use inject::Injection;
 use landing::Stop;
 use model::LedgerMut;
 use refusals::Refusal;
-use rows::rows_refusal;
+use rows::{Asked, rows_refusal};
 use script::{CallsRef, Head};
-use session::{Counters, LogMut, MarksMut};
+use session::{Counters, LogMut, MARKS, MarksMut, OPERATIONS};
+
+// The writer of a sweep's runs, which the Rust takes as a closure: a script's line 1 and its rows. (Of references: nothing compares it.)
+#[derive(Clone, Copy)]
+pub struct Writer<'a> {
+    pub head: Head,
+    pub rows: usize,
+    pub calls: CallsRef<'a>,
+}
+
+// The operations that a run recorded, in columns of a session's limit: `Run` has how many. (Arrays, since there is no heap; nothing
+// compares them, and each caller writes its zeros, since a function for them would promise what the literal shows.)
+#[derive(Drop)]
+pub struct Recorded {
+    pub kinds: [u8; OPERATIONS],
+    pub offsets: [u32; OPERATIONS],
+    pub lens: [u32; OPERATIONS],
+}
+
+// The entries of a run's ledger, in the same way.
+#[derive(Drop)]
+pub struct Entries {
+    pub ids: [u32; MARKS],
+    pub states: [u8; MARKS],
+    pub torn: [u8; MARKS],
+}
 
 // How a run ended: the session's stop, the operations recorded, how many entries its ledger has, and whether the writer returned an
 // error.
@@ -27,90 +51,71 @@ pub struct Run {
     pub failed: bool,
 }
 
-// A session before any call.
-fn unstarted() -> Counters
-    ensures { result ≡ fresh }
-{
-    Counters {
-        operations: 0,
-        marks: 0,
-        stop: Stop::Running,
-        fired: false,
-        place: 0,
-        withheld: 0,
-    }
-}
-
-// The script's run with what is armed, on a new device's media, and its ledger. (The arrays are lent one by one: out of a lent
-// struct the prover lends no two.) Leaves the media, the operations recorded and the
+// The writer's run with what is armed, on a new device's media, and its ledger. Leaves the media, the operations recorded and the
 // ledger's entries.
 pub fn run_one(
-    head: Head,
+    writer: &Writer<'_>,
     armed: Option<Injection>,
-    rows: usize,
-    calls: &CallsRef<'_>,
     media: &mut [u8],
     copy: &mut [u8],
-    ops: &mut [u8; 1024],
-    spans: &mut [u32; 1024],
-    sizes: &mut [u32; 1024],
-    ids: &mut [u32; 512],
-    states: &mut [u8; 512],
-    torn: &mut [u8; 512],
+    recorded: &mut Recorded,
+    entries: &mut Entries,
 ) -> Result<Run, Refusal>
-    ensures { run_left (ran_as result) media.new copy.new ops.new spans.new sizes.new (entered_of ids.new states.new torn.new) ≡ run_call head armed rows (columns_seen calls.now) media.old copy.old ops.old spans.old sizes.old (entered_of ids.old states.old torn.old) }
+    ensures { run_left (ran_as result) media.new copy.new recorded.new.kinds recorded.new.offsets recorded.new.lens (entered_of entries.new.ids entries.new.states entries.new.torn) ≡ run_call writer.now.head armed writer.now.rows (columns_seen writer.now.calls) media.old copy.old recorded.old.kinds recorded.old.offsets recorded.old.lens (entered_of entries.old.ids entries.old.states entries.old.torn) }
 {
+    let head = writer.head;
+    // Kinds go up to a range. All else that is lent are arrays of a session's limits.
+    let asked = Asked {
+        most: 5,
+        uneven: false,
+        short: false,
+    };
     rows_refusal(
         head.geometry,
         media.len(),
         copy.len(),
-        false,
-        false,
-        5,
-        rows,
-        calls,
+        asked,
+        writer.rows,
+        &writer.calls,
     )?;
     let told = armed_runs::told_by(head, armed);
     device::fill_erased(media);
-    let mut unasked = [0u32; 1];
-    let mut digests = [0u64; 1024];
-    let mut changed = [0u8; 1024];
-    let mut answered = [0u8; 1024];
-    let mut marks = [0u8; 512];
-    let mut named = [0u32; 512];
-    let mut places = [0u64; 512];
     let mut log = LogMut {
-        kinds: ops,
-        offsets: spans,
-        lens: sizes,
-        digests: &mut digests,
-        changed: &mut changed,
-        answered: &mut answered,
+        kinds: &mut recorded.kinds,
+        offsets: &mut recorded.offsets,
+        lens: &mut recorded.lens,
+        digests: &mut [0; OPERATIONS],
+        changed: &mut [0; OPERATIONS],
+        answered: &mut [0; OPERATIONS],
     };
-    let mut record_marks = MarksMut {
-        codes: &mut marks,
-        ids: &mut named,
-        places: &mut places,
+    let mut marks = MarksMut {
+        codes: &mut [0; MARKS],
+        ids: &mut [0; MARKS],
+        places: &mut [0; MARKS],
     };
-    let mut ledger = LedgerMut { ids, states, torn };
+    let mut ledger = LedgerMut {
+        ids: &mut entries.ids,
+        states: &mut entries.states,
+        torn: &mut entries.torn,
+    };
     let (ended, derived) = runner::run_ledgered(
         told,
         head.carries_on,
-        unstarted(),
-        rows,
-        calls,
-        &mut unasked,
+        Counters::fresh(),
+        writer.rows,
+        &writer.calls,
+        &mut [],
         media,
         copy,
         &mut log,
-        &mut record_marks,
+        &mut marks,
         &mut ledger,
     );
-    let entries = derived?;
+    let count = derived?;
     Ok(Run {
         stop: ended.counters.stop,
         operations: ended.counters.operations,
-        entries,
+        entries: count,
         failed: ended.failed,
     })
 }

@@ -1,53 +1,35 @@
 -- Two lists compared, and the rows of columns.
---     same_row, same-differ, same_next   at two places, one pair more
---     same_out, same-lengths             past the ends; of lists that are not as long
---     same-pointwise                     as `==` compares them
---     op-true, op_self, op-other         two operations that are alike are one
---     mark-true, mark-self, mark-other, mark-equal   and two marks
---     through-length, ops-unequal, ops-differ, ops-next, ops-out   two runs' operations compared, row by row
+--     same-lengths, same_true, same_self, same-pointwise   of lists that are not as long, that are equal, and as `==` compares them
+--     op-true, op_self, op-eq                              two operations that are alike are one
+--     mark-true, mark-self, mark-eq                        and two marks
+--     row_of, ops-given                                    a run's operations, as an iterator over the rows gives them
 -- Assumes nothing.
 use mathlib.Core.Path.{◌≡◌, refl, sym, ap, ◌∙◌}
 use mathlib.Core.Bool.{Bool, true, false, ◌&&◌, true≢false}
-use mathlib.Core.List.{List, [], ◌∷◌}
-use Prim.Native.Nat.{ℕ, zero, suc, ◌+◌, ◌≤◌, ◌<◌}
+use mathlib.Core.List.{List, [], ◌∷◌, map}
+use Prim.Native.Nat.{ℕ, zero, suc, ◌≤◌, ◌<◌}
 use native.Mathlib.Nat.{not-suc-le-zero, le_of_suc-le-suc, suc-ne-zero, suc_inj}
 use native.Mathlib.Omega.{arith}
 use lib.Dec.{eqb}
-use lib.ListN.{length, take, drop, get_or, length-take}
+use lib.ListN.{length, take, get_or, length-take}
 use lib.Seq.{length-take-le}
 use lib.Pointwise.{pointwise}
 use borrow.Author.Tests.{eq-eqb, eqb-true}
 use Rattle.std.specs.Prelude.{Option, Some, None}
-use Rattle.std.proofs.lemmas.List.{get_or-take}
-use Rattle.basics.proofs.Scans.{at-step, at-end}
+use Rattle.std.specs.Option.{option_eq}
+use Rattle.std.specs.List.{range_with_len}
+use Rattle.std.proofs.lemmas.List.{get_or-take, ext_get_or}
+use Rattle.std.proofs.lemmas.List.FromFn.{get_or-map-range_with_len, length-map-range_with_len}
 use Rattle.inject.specs.declared.Op.{Op}
 use Rattle.inject.specs.declared.Op.TheVariants.{Program, Erase, Barrier}
 use Rattle.inject.specs.Ops.{op_of, ops_of}
+use Rattle.inject.specs.Steps.{op_at}
 use Rattle.records.specs.Records.{Label, begin, end, RecordMark}
 use Rattle.held.specs.declared.Mark.{Mark}
 use Rattle.held.specs.Held.{Recorded, same, same_op, same_label, same_mark, end_of, ops_through}
 use Rattle.held.specs.Scans.{label_as, marked_as, Fits}
 
 -- ---- two lists
-
-module _ {A : Type 0} (f : A → A → Bool) (xs ys : List A) (i j : ℕ) (w : Bool) (e : w ≡ same f (drop i xs) (drop j ys)) where
-  module _ (d : A) (h : i < length xs) (k : j < length ys) where
-    same_row : w ≡ (f (get_or xs i d) (get_or ys j d) && same f (drop (i + 1) xs) (drop (j + 1) ys))
-    unfolding same
-    same_row =
-        e ∙ at-step (λ (l : List A). same f l (drop j ys)) xs i d h
-        ∙ at-step (λ (l : List A). same f (get_or xs i d ∷ drop (i + 1) xs) l) ys j d k
-
-    module _ (b : Bool) (q : b ≡ f (get_or xs i d) (get_or ys j d)) where
-      pub same-differ : b ≡ false → false ≡ w
-      same-differ n = sym (same_row ∙ rw (← q, n))
-
-      pub same_next : b ≡ true → w ≡ same f (drop (i + 1) xs) (drop (j + 1) ys)
-      same_next y = same_row ∙ rw (← q, y)
-
-  pub same_out : length xs ≤ i → length ys ≤ j → true ≡ w
-  unfolding same
-  same_out h k = sym (e ∙ at-end (λ (l : List A). same f l (drop j ys)) xs i h ∙ at-end (λ (l : List A). same f [] l) ys j k)
 
 pub both : (a b : Bool) → (a && b) ≡ true → (a ≡ true) × (b ≡ true)
 both true b e = (refl, e)
@@ -64,6 +46,22 @@ same-lengths f [] (y ∷ ys) n = refl
 same-lengths f (x ∷ xs) [] n = refl
 same-lengths f (x ∷ xs) (y ∷ ys) n =
     sym (ap (λ (b : Bool). f x y && b) (sym (same-lengths f xs ys (λ q. n (ap suc q)))) ∙ and-false (f x y))
+
+-- two lists that are alike are equal
+module _ {A : Type 0} (f : A → A → Bool) where
+  pub same_true : ((x y : A) → f x y ≡ true → x ≡ y) → (xs ys : List A) → same f xs ys ≡ true → xs ≡ ys
+  unfolding same
+  same_true h [] [] e = refl
+  same_true h [] (y ∷ ys) e = absurd (true≢false (sym e))
+  same_true h (x ∷ xs) [] e = absurd (true≢false (sym e))
+  same_true h (x ∷ xs) (y ∷ ys) e =
+      let b = both (f x y) (same f xs ys) e in
+      ap (λ (z : A). z ∷ xs) (h x y b.0) ∙ ap (λ (l : List A). y ∷ l) (same_true h xs ys b.1)
+
+  pub same_self : ((x : A) → f x x ≡ true) → (xs : List A) → same f xs xs ≡ true
+  unfolding same
+  same_self h [] = refl
+  same_self h (x ∷ xs) = rw (h x, same_self h xs)
 
 -- `==` of two slices
 pub same-pointwise : {A : Type 0} (f : A → A → Bool) (xs ys : List A) → pointwise f xs ys ≡ same f xs ys
@@ -115,6 +113,24 @@ op_self (Program a m) = simp (eq-eqb a a refl, eq-eqb m m refl)
 op_self (Erase a m) = simp (eq-eqb a a refl, eq-eqb m m refl)
 op_self Barrier = refl
 
+-- two operations as `==` compares them, kind by kind
+module _ (eq : Op → Op → Bool) (programs : (a m b n : ℕ) → eq (Program a m) (Program b n) ≡ (eqb a b && eqb m n))
+    (erases : (a m b n : ℕ) → eq (Erase a m) (Erase b n) ≡ (eqb a b && eqb m n)) (barriers : eq Barrier Barrier ≡ true)
+    (program-erase : (a m b n : ℕ) → eq (Program a m) (Erase b n) ≡ false) (program-barrier : (a m : ℕ) → eq (Program a m) Barrier ≡ false)
+    (erase-program : (a m b n : ℕ) → eq (Erase a m) (Program b n) ≡ false) (erase-barrier : (a m : ℕ) → eq (Erase a m) Barrier ≡ false)
+    (barrier-program : (b n : ℕ) → eq Barrier (Program b n) ≡ false) (barrier-erase : (b n : ℕ) → eq Barrier (Erase b n) ≡ false) where
+  pub op-eq : (x y : Op) → eq x y ≡ same_op x y
+  unfolding same_op
+  op-eq (Program a m) (Program b n) = programs a m b n
+  op-eq (Program a m) (Erase b n) = program-erase a m b n
+  op-eq (Program a m) Barrier = program-barrier a m
+  op-eq (Erase a m) (Program b n) = erase-program a m b n
+  op-eq (Erase a m) (Erase b n) = erases a m b n
+  op-eq (Erase a m) Barrier = erase-barrier a m
+  op-eq Barrier (Program b n) = barrier-program b n
+  op-eq Barrier (Erase b n) = barrier-erase b n
+  op-eq Barrier Barrier = barriers
+
 label-true : (a b : Label) → same_label a b ≡ true → a ≡ b
 unfolding same_label
 label-true (begin i) (begin k) e = ap begin (eqb-true i k e)
@@ -137,33 +153,26 @@ mark-true a b e =
 pub mark-self : (a : RecordMark) → same_mark a a ≡ true
 mark-self a = simp (label-self a.label, eq-eqb a.place a.place refl)
 
-not-true : (b : Bool) → (b ≡ true → ⊥) → b ≡ false
+pub not-true : (b : Bool) → (b ≡ true → ⊥) → b ≡ false
 not-true true n = absurd (n refl)
 not-true false n = refl
 
-pub op-other : (a b : Op) → (a ≡ b → ⊥) → same_op a b ≡ false
-op-other a b n = not-true (same_op a b) (λ t. n (op-true a b t))
+-- two marks as `==` compares them
+label-eq : (i j : Option ℕ) → option_eq eqb i j ≡ same_label (label_as i) (label_as j)
+unfolding same_label
+label-eq None None = refl
+label-eq None (Some j) = refl
+label-eq (Some i) None = refl
+label-eq (Some i) (Some j) = refl
 
--- two marks as they are read
-label-one : (i j : Option ℕ) → label_as i ≡ label_as j → i ≡ j
-label-one None None e = refl
-label-one None (Some j) e = let z : end ≡ begin j = e in cc
-label-one (Some i) None e = let z : begin i ≡ end = e in cc
-label-one (Some i) (Some j) e = let z : begin i ≡ begin j = e in cc
+pub mark-eq : (x y : Mark) → (option_eq eqb x.id y.id && eqb x.place y.place) ≡ same_mark (marked_as x) (marked_as y)
+mark-eq x y = ap (λ (b : Bool). b && eqb x.place y.place) (label-eq x.id y.id)
 
-marked-one : (x y : Mark) → marked_as x ≡ marked_as y → x ≡ y
-marked-one x y e =
-    let i = label-one x.id y.id (ap (λ (m : RecordMark). m.label) e) in
-    let p = ap (λ (m : RecordMark). m.place) e in
-    λ q. record { id = i q; place = p q }
+-- ---- a run's operations, row by row
 
-pub mark-other : (x y : Mark) → (x ≡ y → ⊥) → same_mark (marked_as x) (marked_as y) ≡ false
-mark-other x y n = not-true (same_mark (marked_as x) (marked_as y)) (λ t. n (marked-one x y (mark-true (marked_as x) (marked_as y) t)))
-
-pub mark-equal : (x y : Mark) → x ≡ y → same_mark (marked_as x) (marked_as y) ≡ true
-mark-equal x y e = ap (λ (z : Mark). same_mark (marked_as x) (marked_as z)) (sym e) ∙ mark-self (marked_as x)
-
--- ---- two runs' operations, as a loop compares them
+-- a row of a run's operations
+abbrev pub row_of : Recorded → ℕ → Op
+row_of x i = op_at x.kinds x.offsets x.lens i
 
 module _ (t : ℕ) (x : Recorded) (w : Fits x) where
   within : end_of t x ≤ length x.kinds
@@ -176,42 +185,18 @@ module _ (t : ℕ) (x : Recorded) (w : Fits x) where
   kinds-length : length (take (end_of t x) x.kinds) ≡ end_of t x
   kinds-length = length-take-le (end_of t x) x.kinds within
 
-  pub through-length : length (ops_through t x) ≡ end_of t x
+  through-length : length (ops_through t x) ≡ end_of t x
   through-length = ops-length _ _ _ (cut x.offsets w.offsets) (cut x.lens w.lens) ∙ kinds-length
 
-  through-at : (i : ℕ) → i < end_of t x → get_or (ops_through t x) i Barrier ≡ op_of (get_or x.kinds i 0) (get_or x.offsets i 0) (get_or x.lens i 0)
+  through-at : (i : ℕ) → i < end_of t x → get_or (ops_through t x) i Barrier ≡ row_of x i
   through-at i h =
       let n : ℕ = end_of t x in
       ops-at (take n x.kinds) (take n x.offsets) (take n x.lens) i (cut x.offsets w.offsets) (cut x.lens w.lens) (rw kinds-length h)
       ∙ (λ q. op_of (get_or-take n x.kinds i 0 h q) (get_or-take n x.offsets i 0 h q) (get_or-take n x.lens i 0 h q))
 
-module _ (t : ℕ) (f r : Recorded) (w : Fits f × Fits r) where
-  abbrev first : List Op
-  first = ops_through t f
-
-  abbrev second : List Op
-  second = ops_through t r
-
-  pub ops-unequal : (end_of t f ≡ end_of t r → ⊥) → false ≡ same same_op first second
-  ops-unequal n = same-lengths same_op first second (λ q. n (sym (through-length t f w.0) ∙ q ∙ through-length t r w.1))
-
-  module _ (q : end_of t f ≡ end_of t r) (i : ℕ) (e : same same_op first second ≡ same same_op (drop i first) (drop i second)) where
-    pub ops-out : end_of t f ≤ i → true ≡ same same_op first second
-    ops-out h = same_out same_op first second i i (same same_op first second) e (rw (through-length t f w.0) h) (rw (through-length t r w.1) (rw (← q) h))
-
-    module _ (h : i < end_of t f) (x y : Op) (p : x ≡ op_of (get_or f.kinds i 0) (get_or f.offsets i 0) (get_or f.lens i 0))
-        (o : y ≡ op_of (get_or r.kinds i 0) (get_or r.offsets i 0) (get_or r.lens i 0)) where
-      k : i < end_of t r
-      k = rw (← q) h
-
-      pair : same_op x y ≡ same_op (get_or first i Barrier) (get_or second i Barrier)
-      pair = λ z. same_op ((p ∙ sym (through-at t f w.0 i h)) z) ((o ∙ sym (through-at t r w.1 i k)) z)
-
-      pub ops-differ : (x ≡ y → ⊥) → false ≡ same same_op first second
-      ops-differ n =
-          same-differ same_op first second i i (same same_op first second) e Barrier (rw (through-length t f w.0) h) (rw (through-length t r w.1) k) (same_op x y) pair (op-other x y n)
-
-      pub ops-next : x ≡ y → same same_op first second ≡ same same_op (drop (i + 1) first) (drop (i + 1) second)
-      ops-next y-is =
-          same_next same_op first second i i (same same_op first second) e Barrier (rw (through-length t f w.0) h) (rw (through-length t r w.1) k) (same_op x y) pair
-          (ap (λ (z : Op). same_op x z) (sym y-is) ∙ op_self x)
+  -- as an iterator gives them
+  pub ops-given : map (row_of x) (range_with_len 0 (end_of t x)) ≡ ops_through t x
+  ops-given =
+      let l = length-map-range_with_len (row_of x) 0 (end_of t x) in
+      ext_get_or Barrier (map (row_of x) (range_with_len 0 (end_of t x))) (ops_through t x) (l ∙ sym through-length)
+      (λ i h. let k : i < end_of t x = rw (sym l) h in get_or-map-range_with_len (row_of x) 0 (end_of t x) i i Barrier k (omega arith) ∙ sym (through-at i k))

@@ -5,8 +5,8 @@
 --     alike-equal, equal-alike   a run differs in none of what is asked exactly if the lists are equal
 -- Assumes nothing.
 use mathlib.Core.Path.{◌≡◌, refl, sym, ap, ◌∙◌}
-use mathlib.Core.Bool.{Bool, true, false, ◌&&◌, true≢false}
-use mathlib.Core.List.{List, [], ◌∷◌}
+use mathlib.Core.Bool.{Bool, true, false, ◌&&◌}
+use mathlib.Core.List.{[], ◌∷◌}
 use Prim.Native.Nat.{ℕ}
 use lib.Dec.{eqb}
 use borrow.Author.Tests.{eq-eqb, ne_eqb, eqb-true, eqb-false}
@@ -16,7 +16,7 @@ use Rattle.basics.proofs.Tests.{first_of-pass, first_of-stop, first_of-one}
 use Rattle.inject.specs.declared.Injection.{Injection}
 use Rattle.held.specs.declared.Held.TheVariants.{Relabelled}
 use Rattle.held.specs.Held.{Recorded, is_relabelled, same, same_op, same_mark, ops_through, digests_through, marks_through, same_through, held_number, held_test, number_of_held, kept_unless, held_by, held_call}
-use Rattle.held.proofs.Alike.{both, op-true, op_self, mark-true, mark-self}
+use Rattle.held.proofs.Alike.{both, same_true, same_self, op-true, op_self, mark-true, mark-self}
 
 -- ---- the number
 
@@ -64,22 +64,7 @@ module _ (j : Injection) (f r : Recorded) where
     pub never-refused : relabelled ≡ true → held_call j f r ≡ Ok Relabelled
     never-refused e = unrefused z ∙ rw e
 
--- ---- two lists that are alike are equal
-
-module _ {A : Type 0} (f : A → A → Bool) where
-  same_true : ((x y : A) → f x y ≡ true → x ≡ y) → (xs ys : List A) → same f xs ys ≡ true → xs ≡ ys
-  unfolding same
-  same_true h [] [] e = refl
-  same_true h [] (y ∷ ys) e = absurd (true≢false (sym e))
-  same_true h (x ∷ xs) [] e = absurd (true≢false (sym e))
-  same_true h (x ∷ xs) (y ∷ ys) e =
-      let b = both (f x y) (same f xs ys) e in
-      ap (λ (z : A). z ∷ xs) (h x y b.0) ∙ ap (λ (l : List A). y ∷ l) (same_true h xs ys b.1)
-
-  same_self : ((x : A) → f x x ≡ true) → (xs : List A) → same f xs xs ≡ true
-  unfolding same
-  same_self h [] = refl
-  same_self h (x ∷ xs) = rw (h x, same_self h xs)
+-- ---- two runs
 
 module _ (through : ℕ) (f r : Recorded) where
   pub alike-equal : same_through through f r ≡ true

@@ -1,5 +1,5 @@
 -- The columns' tests: from the code's branches to the number, and from 0 back to what holds.
---     twelve, thirteen, none     the number of two runs' columns
+--     number-is                  the number of two runs' columns
 --     lowest-none, columns-fit   what an unrefused call knows
 -- Assumes nothing.
 use mathlib.Core.Path.{◌≡◌, refl, sym, ap₂, ◌∙◌}
@@ -11,18 +11,19 @@ use native.Mathlib.Omega.{arith}
 use lib.ListN.{length}
 use lib.Dec.{eqb, ltb}
 use borrow.Author.Tests.{ne_eqb, eqb-true, ltb-false, not-false}
-use Rattle.basics.specs.Tests.{unless, refuse_if}
+use Rattle.basics.specs.Tests.{unless, refuse_if, first_of}
 use Rattle.basics.proofs.Tests.{first_of-zero, refuse-zero}
+use Rattle.refusals.specs.Tests.{columns_test as lent_test}
 use Rattle.device.proofs.Pairs.{false_left, false_right}
 use Rattle.ledger.specs.Ledger.{counts_short}
-use Rattle.ledger.proofs.Numbers.{test, tested}
+use Rattle.ledger.proofs.Numbers.{tested}
 use Rattle.held.specs.Held.{Recorded, uneven_in, known_in, columns_test, lowest, held_test}
 use Rattle.held.specs.Scans.{malformed, short_in, Fits}
 
 -- ---- the number, by the two tests of each run
 
-lowest_of : (m s n t : Bool) → lowest (test m s) (test n t) ≡ test (m || n) (s || t)
-unfolding test lowest
+lowest_of : (m s n t : Bool) → lowest (lent_test m s) (lent_test n t) ≡ lent_test (m || n) (s || t)
+unfolding first_of refuse_if lowest
 lowest_of true s true t = refl
 lowest_of true s false true = refl
 lowest_of true s false false = refl
@@ -34,25 +35,15 @@ lowest_of false false false true = refl
 lowest_of false false false false = refl
 
 module _ (f r : Recorded) where
-  whole : held_test f r ≡ test (malformed f || malformed r) (short_in f || short_in r)
+  whole : held_test f r ≡ lent_test (malformed f || malformed r) (short_in f || short_in r)
   unfolding columns_test malformed short_in
   whole =
       ap₂ (λ (a b : ℕ). lowest a b) (tested (uneven_in f) (known_in f.counters f.kinds f.codes) (short_in f)) (tested (uneven_in r) (known_in r.counters r.kinds r.codes) (short_in r))
       ∙ lowest_of (malformed f) (short_in f) (malformed r) (short_in r)
 
-  module _ (m n : Bool) (p : m ≡ malformed f) (q : n ≡ malformed r) where
-    pub twelve : (m || n) ≡ true → 12 ≡ held_test f r
-    unfolding test
-    twelve e = sym (whole ∙ rw (← p, ← q, e))
-
-    module _ (e : (m || n) ≡ false) (s t : Bool) (u : s ≡ short_in f) (v : t ≡ short_in r) where
-      pub thirteen : (s || t) ≡ true → 13 ≡ held_test f r
-      unfolding test
-      thirteen y = sym (whole ∙ rw (← p, ← q, e, ← u, ← v, y))
-
-      pub none : (s || t) ≡ false → 0 ≡ held_test f r
-      unfolding test
-      none y = sym (whole ∙ rw (← p, ← q, e, ← u, ← v, y))
+  pub number-is : (m n s t : Bool) → m ≡ malformed f → n ≡ malformed r → s ≡ short_in f → t ≡ short_in r
+      → (k : ℕ) → k ≡ lent_test (m || n) (s || t) → k ≡ held_test f r
+  number-is m n s t p q u v k e = e ∙ (λ i. lent_test (p i || q i) (u i || v i)) ∙ sym whole
 
 pub lowest-none : (a b : ℕ) → lowest a b ≡ 0 → (a ≡ 0) × (b ≡ 0)
 unfolding lowest

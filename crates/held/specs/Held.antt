@@ -38,7 +38,7 @@ recorded_of c k o l d m i p = record { counters = c; kinds = k; offsets = o; len
 -- what is lent of a run
 abbrev pub recorded_in : Lent → Recorded
 recorded_in x =
-    recorded_of x.counters x.kinds.now x.offsets.now x.lens.now x.digests.now x.codes.now x.ids.now x.places.now
+    recorded_of x.counters x.ops.kinds.now x.ops.offsets.now x.ops.lens.now x.digests.now x.marks.codes.now x.marks.ids.now x.marks.places.now
 
 -- ---- which injection it is
 

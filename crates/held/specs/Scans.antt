@@ -1,5 +1,5 @@
 -- What the private functions of `src/` answer. No public contract cites these. Assumes nothing.
-use Rattle.std.specs.Prelude.{Bool, not, ◌||◌, cond, List, [], ◌∷◌, ◌≡◌, ℕ, suc, ◌+◌, ◌≤◌, length, drop, ltb, Option, Some, None}
+use Rattle.std.specs.Prelude.{Bool, not, ◌||◌, ◌≡◌, ℕ, ◌≤◌, length, Option, Some, None}
 use Rattle.records.specs.Records.{Label, begin, end, RecordMark}
 use Rattle.ledger.specs.Ledger.{label_of, counts_short}
 use Rattle.held.specs.declared.Mark.{Mark}
@@ -26,22 +26,6 @@ label_as (Some id) = begin id
 
 abbrev pub marked_as : Mark → RecordMark
 marked_as m = record { label = label_as m.id; place = m.place }
-
--- how many places at the beginning are not below a limit
-unfoldable pub skipped : (limit : ℕ) → (places : List ℕ) → ℕ
-skipped limit [] = 0
-skipped limit (p ∷ ps) = cond (ltb p limit) 0 (suc (skipped limit ps))
-
--- the first place from `from` on that is below a limit, or the length
-abbrev pub next_or_end : (limit from : ℕ) → (places : List ℕ) → ℕ
-next_or_end limit from ps = from + skipped limit (drop from ps)
-
--- a place among n, or none
-abbrev pub placed : (at n : ℕ) → Option ℕ
-placed at n = cond (ltb at n) (Some at) None
-
-abbrev pub next_below : (limit from : ℕ) → (places : List ℕ) → Option ℕ
-next_below limit from ps = placed (next_or_end limit from ps) (length ps)
 
 -- columns of one length each, which hold all that is counted
 pub record Fits (x : Recorded) : Type 0 where

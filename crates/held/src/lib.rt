@@ -5,16 +5,16 @@
 // input: columns are tested first (12, 13).
 #![tactic(auto)]
 
-ghost use Rattle.std.specs.Prelude.{◌≡◌, suc, ◌<◌, ◌≤◌, length, take, get_or, eqb};
-ghost use Rattle.basics.specs.Replies.{number_in, numbered};
+ghost use Rattle.std.specs.Prelude.{◌≡◌, suc, get_or, eqb};
+ghost use Rattle.basics.specs.Replies.{numbered};
 ghost use Rattle.refusals.specs.Numbers.{number_of};
-ghost use Rattle.inject.specs.Ops.{op_of};
-ghost use Rattle.held.specs.Held.{recorded_in, is_relabelled, is_opening, same, same_op, same_mark, end_of, ops_through, digests_through, marks_through, same_through, held_test, held_call};
-ghost use Rattle.held.specs.Scans.{malformed, short_in, mark_of, marked_as, next_below, Fits};
+ghost use Rattle.held.specs.Held.{recorded_in, is_relabelled, is_opening, same, same_op, same_mark, end_of, ops_through, digests_through, marks_through, same_through, held_call};
+ghost use Rattle.held.specs.Scans.{malformed, short_in, mark_of, marked_as, Fits};
 
-use inject::{Injection, Interruption, Op, Progress};
-use refusals::Refusal;
-use session::Counters;
+use basics::cell;
+use inject::{Injection, Interruption, OpsRef, Progress};
+use refusals::{Refusal, columns_refusal};
+use session::{Counters, MarksRef};
 
 // What is given of a run: the fault-free one relabelled, or the run itself.
 #[derive(Clone, Copy, Debug, PartialEq, Eq)]
@@ -27,13 +27,16 @@ pub enum Held {
 #[derive(Clone, Copy)]
 pub struct Recorded<'a> {
     pub counters: Counters,
-    pub kinds: &'a [u8],
-    pub offsets: &'a [u32],
-    pub lens: &'a [u32],
+    pub ops: OpsRef<'a>,
     pub digests: &'a [u64],
-    pub codes: &'a [u8],
-    pub ids: &'a [u32],
-    pub places: &'a [u64],
+    pub marks: MarksRef<'a>,
+}
+
+// A run whose columns nothing refuses: those of one list are as long, and hold all that is counted.
+#[derive(Clone, Copy)]
+struct Sound<'a> {
+    recorded: Recorded<'a>,
+    ghost fits: { Fits (recorded_in recorded) },
 }
 
 // A record mark: an end has no id.
@@ -44,75 +47,27 @@ struct Mark {
 }
 
 impl Recorded<'_> {
-    // ---- the columns' tests
-
-    // Whether columns of one list are unequal, or hold a code without a meaning among those counted.
+    // Whether columns of one list are unequal, or hold a code without a meaning among those counted. (`inject` tests the lengths of `ops`
+    // together with its own limit; here a fourth column goes with them.)
     fn malformed(&self) -> bool
         ensures { result ≡ malformed (recorded_in self.now) }
     {
-        let rows = self.kinds.len();
-        let marks = self.codes.len();
-        let uneven_rows = (self.offsets.len() != rows)
-            | (self.lens.len() != rows)
+        let ops = self.ops;
+        let rows = ops.kinds.len();
+        let uneven_rows = (ops.offsets.len() != rows)
+            | (ops.lens.len() != rows)
             | (self.digests.len() != rows);
-        let uneven_marks = (self.ids.len() != marks) | (self.places.len() != marks);
-        let kinds_known = ledger::known(self.kinds, self.counters.operations, 2);
-        let codes_known = ledger::known(self.codes, self.counters.marks, 1);
-        uneven_rows | uneven_marks | !(kinds_known & codes_known)
+        let kinds_known = ledger::known(ops.kinds, self.counters.operations, 2);
+        let codes_known = ledger::known(self.marks.codes, self.counters.marks, 1);
+        uneven_rows | self.marks.uneven() | !(kinds_known & codes_known)
     }
 
     // Whether the columns are shorter than the session's limits or its counts.
     fn short(&self) -> bool
         ensures { result ≡ short_in (recorded_in self.now) }
     {
-        ledger::counts_short(self.counters, self.kinds.len(), self.codes.len())
+        ledger::counts_short(self.counters, self.ops.kinds.len(), self.marks.codes.len())
     }
-
-    // ---- what has to be alike
-
-    // How many operations are compared: those through the armed one.
-    fn end_of(&self, op: usize) -> usize
-        ensures { result ≡ end_of (suc op) (recorded_in self.now) }
-    {
-        op.saturating_add(1).min(self.counters.operations)
-    }
-
-    // A barrier has no span.
-    fn op_at(&self, at: usize) -> Op
-        requires { (at < length self.now.kinds.now) × (at < length self.now.offsets.now) × (at < length self.now.lens.now) }
-        ensures { result ≡ op_of (get_or self.now.kinds.now at 0) (get_or self.now.offsets.now at 0) (get_or self.now.lens.now at 0) }
-    {
-        let offset = self.offsets[at];
-        let len = self.lens[at];
-        match self.kinds[at] {
-            0 => Op::Program { offset, len },
-            1 => Op::Erase { offset, len },
-            _ => Op::Barrier,
-        }
-    }
-
-    fn mark_at(&self, at: usize) -> Mark
-        requires { (at < length self.now.codes.now) × (at < length self.now.ids.now) × (at < length self.now.places.now) }
-        ensures { marked_as result ≡ mark_of (get_or self.now.codes.now at 0) (get_or self.now.ids.now at 0) (get_or self.now.places.now at 0) }
-    {
-        Mark {
-            id: (self.codes[at] == 1).then_some(self.ids[at]),
-            place: self.places[at],
-        }
-    }
-}
-
-// 12 for unequal columns or a code without a meaning among those counted, then 13 for columns that are too short.
-fn columns_refusal(free: &Recorded<'_>, run: &Recorded<'_>) -> Result<(), Refusal>
-    ensures { number_in number_of result ≡ held_test (recorded_in free.now) (recorded_in run.now) }
-{
-    if free.malformed() | run.malformed() {
-        return Err(Refusal::MalformedColumns);
-    }
-    if free.short() | run.short() {
-        return Err(Refusal::ColumnsTooShort);
-    }
-    Ok(())
 }
 
 // ---- which injection it is
@@ -140,66 +95,58 @@ fn is_opening(injection: Injection, operations: usize) -> bool
 
 // ---- what has to be alike
 
-fn same_ops(free: &Recorded<'_>, run: &Recorded<'_>, op: usize) -> bool
-    requires { Fits (recorded_in free.now) × Fits (recorded_in run.now) }
-    ensures { result ≡ same same_op (ops_through (suc op) (recorded_in free.now)) (ops_through (suc op) (recorded_in run.now)) }
-{
-    let end = free.end_of(op);
-    if end != run.end_of(op) {
-        return false;
+impl Sound<'_> {
+    // How many operations are compared: those through the armed one.
+    fn end_of(&self, op: usize) -> usize
+        ensures { result ≡ end_of (suc op) (recorded_in self.now.recorded) }
+    {
+        op.saturating_add(1).min(self.recorded.counters.operations)
     }
-    for at in 0..end {
-        if free.op_at(at) != run.op_at(at) {
-            return false;
+
+    fn mark_at(&self, at: usize) -> Mark
+        ensures { marked_as result ≡ mark_of (get_or self.now.recorded.marks.codes.now at 0) (get_or self.now.recorded.marks.ids.now at 0) (get_or self.now.recorded.marks.places.now at 0) }
+    {
+        let marks = self.recorded.marks;
+        let id = cell(marks.ids, at, 0);
+        Mark {
+            id: (cell(marks.codes, at, 0) == 1).then_some(id),
+            place: cell(marks.places, at, 0),
         }
     }
-    true
 }
 
-fn same_digests(free: &Recorded<'_>, run: &Recorded<'_>, op: usize) -> bool
-    requires { Fits (recorded_in free.now) × Fits (recorded_in run.now) }
-    ensures { result ≡ same eqb (digests_through (suc op) (recorded_in free.now)) (digests_through (suc op) (recorded_in run.now)) }
+fn same_ops(free: &Sound<'_>, run: &Sound<'_>, op: usize) -> bool
+    ensures { result ≡ same same_op (ops_through (suc op) (recorded_in free.now.recorded)) (ops_through (suc op) (recorded_in run.now.recorded)) }
 {
-    free.digests[..free.end_of(op)] == run.digests[..run.end_of(op)]
+    let free_ops = (0..free.end_of(op)).map(|at| free.recorded.ops.op_at(at));
+    let ops = (0..run.end_of(op)).map(|at| run.recorded.ops.op_at(at));
+    free_ops.eq(ops)
 }
 
-// The first place from `from` on that is below a limit.
-fn next_below(places: &[u64], from: usize, limit: usize) -> Option<usize>
-    requires { from ≤ length places.now }
-    ensures { result ≡ next_below limit from places.now }
+fn same_digests(free: &Sound<'_>, run: &Sound<'_>, op: usize) -> bool
+    ensures { result ≡ same eqb (digests_through (suc op) (recorded_in free.now.recorded)) (digests_through (suc op) (recorded_in run.now.recorded)) }
 {
-    let ahead = places[from..]
-        .iter()
-        .position(|place| (*place as usize) < limit)?;
-    Some(from + ahead)
+    free.recorded.digests[..free.end_of(op)] == run.recorded.digests[..run.end_of(op)]
 }
 
 // The marks whose operation count is below what is compared, of each run its own.
-fn same_marks(free: &Recorded<'_>, run: &Recorded<'_>, op: usize) -> bool
-    requires { Fits (recorded_in free.now) × Fits (recorded_in run.now) }
-    ensures { result ≡ same same_mark (marks_through (suc op) (recorded_in free.now)) (marks_through (suc op) (recorded_in run.now)) }
+fn same_marks(free: &Sound<'_>, run: &Sound<'_>, op: usize) -> bool
+    ensures { result ≡ same same_mark (marks_through (suc op) (recorded_in free.now.recorded)) (marks_through (suc op) (recorded_in run.now.recorded)) }
 {
     let free_end = free.end_of(op);
     let end = run.end_of(op);
-    let free_places = &free.places[..free.counters.marks];
-    let places = &run.places[..run.counters.marks];
-    let mut i = next_below(free_places, 0, free_end);
-    let mut j = next_below(places, 0, end);
-    // Two runs are walked at once, each by its own next mark: an iterator of either is no plainer.
-    while let (Some(m), Some(n)) = (i, j) {
-        if free.mark_at(m) != run.mark_at(n) {
-            return false;
-        }
-        i = next_below(free_places, m + 1, free_end);
-        j = next_below(places, n + 1, end);
-    }
-    i.is_none() & j.is_none()
+    let free_marks = (0..free.recorded.counters.marks)
+        .map(|at| free.mark_at(at))
+        .filter(|mark| (mark.place as usize) < free_end);
+    let marks = (0..run.recorded.counters.marks)
+        .map(|at| run.mark_at(at))
+        .filter(|mark| (mark.place as usize) < end);
+    free_marks.eq(marks)
 }
 
 // Whether two runs have the same operations and digests through the armed operation, and the same marks below it.
-fn same_through(free: &Recorded<'_>, run: &Recorded<'_>, op: usize) -> bool
-    requires { Fits (recorded_in free.now) × Fits (recorded_in run.now) }
-    ensures { result ≡ same_through (suc op) (recorded_in free.now) (recorded_in run.now) }
+fn same_through(free: &Sound<'_>, run: &Sound<'_>, op: usize) -> bool
+    ensures { result ≡ same_through (suc op) (recorded_in free.now.recorded) (recorded_in run.now.recorded) }
 {
     let same_rows = same_ops(free, run, op);
     let same_bytes = same_digests(free, run, op);
@@ -215,7 +162,9 @@ pub fn held_to(
 ) -> Result<Held, Refusal>
     ensures { numbered number_of result ≡ held_call injection (recorded_in free.now) (recorded_in run.now) }
 {
-    columns_refusal(free, run)?;
+    let malformed = free.malformed() | run.malformed();
+    let short = free.short() | run.short();
+    columns_refusal(malformed, short)?;
     let operations = free.counters.operations;
     if is_terminal(injection, operations) {
         return Ok(Held::Relabelled);
@@ -223,7 +172,9 @@ pub fn held_to(
     if !run.counters.fired & !is_opening(injection, operations) {
         return Err(Refusal::NeverFired);
     }
-    if !same_through(free, run, injection.op) {
+    let free = Sound { recorded: *free };
+    let run = Sound { recorded: *run };
+    if !same_through(&free, &run, injection.op) {
         return Err(Refusal::Diverged);
     }
     Ok(Held::Kept)

@@ -5,34 +5,13 @@
 
 ghost use Rattle.std.specs.Prelude.{◌≡◌};
 ghost use Rattle.held.specs.Held.{recorded_of, held_call};
-ghost use Rattle.session_numbers.specs.Numbers.{progress_of, interruption_of, counters_of};
+ghost use Rattle.session_numbers.specs.Numbers.{counters_of};
 ghost use Rattle.held_exported.specs.Codes.{injection_of, code_of};
 
 use basics::Numbered;
 use held::{Held, Recorded};
-use inject::{Injection, Interruption, Progress};
-
-// The progress of a kind and a byte count.
-fn progress_of(kind: u32, count: u32) -> Progress
-    ensures { result ≡ progress_of kind count }
-{
-    match kind {
-        0 => Progress::None,
-        1 => Progress::Bytes(count),
-        _ => Progress::Whole,
-    }
-}
-
-// The interruption of a number.
-fn interruption_of(cause: u32) -> Interruption
-    ensures { result ≡ interruption_of cause }
-{
-    match cause {
-        0 => Interruption::PowerLoss,
-        1 => Interruption::Watchdog,
-        _ => Interruption::Failure,
-    }
-}
+use inject::{Injection, Interruption, OpsRef, Progress};
+use session::MarksRef;
 
 // `held_to`: 0 for the run, the number that refuses it, or 2^32, which no number is, for the fault-free run relabelled.
 #[unsafe(no_mangle)]
@@ -60,30 +39,35 @@ pub extern "C" fn held_of_runs(
 ) -> u64
     ensures { result ≡ code_of (held_call (injection_of op kind count cause) (recorded_of (counters_of free_state.now) free_kinds.now free_offsets.now free_lens.now free_digests.now free_codes.now free_ids.now free_places.now) (recorded_of (counters_of state.now) kinds.now offsets.now lens.now digests.now codes.now ids.now places.now)) }
 {
+    // As `session_numbers` `armed_of`, whose operation is a u32 where this is a u64.
     let injection = Injection {
         op: op as usize,
-        progress: progress_of(kind, count),
-        interruption: interruption_of(cause),
+        progress: Progress::of(kind, count),
+        interruption: Interruption::from(cause),
     };
     let free = Recorded {
         counters: session_numbers::counters_of(free_state),
-        kinds: free_kinds,
-        offsets: free_offsets,
-        lens: free_lens,
+        ops: OpsRef {
+            kinds: free_kinds,
+            offsets: free_offsets,
+            lens: free_lens,
+        },
         digests: free_digests,
-        codes: free_codes,
-        ids: free_ids,
-        places: free_places,
+        marks: MarksRef {
+            codes: free_codes,
+            ids: free_ids,
+            places: free_places,
+        },
     };
     let run = Recorded {
         counters: session_numbers::counters_of(state),
-        kinds,
-        offsets,
-        lens,
+        ops: OpsRef {
+            kinds,
+            offsets,
+            lens,
+        },
         digests,
-        codes,
-        ids,
-        places,
+        marks: MarksRef { codes, ids, places },
     };
     match held::held_to(injection, &free, &run) {
         Ok(Held::Kept) => 0,

@@ -1,15 +1,42 @@
--- Pairs and the bytes that they stand for: how many there are, each one by its place, and `decode`, byte by byte.
+-- A digit's value; pairs and the bytes that they stand for: how many there are, each one by its place, and `decode`, byte by byte.
 -- Assumes nothing.
 use mathlib.Core.Path.{◌≡◌, refl, ap, ap₂, sym, ◌∙◌}
+use mathlib.Core.Bool.{true, false, ◌&&◌}
 use mathlib.Core.List.{List, [], ◌∷◌, ◌++◌}
 use Prim.Native.Nat.{ℕ, zero, suc, ◌+◌, ◌-◌, ◌*◌, ◌/◌, ◌%◌, ◌≤◌, ◌<◌, min}
 use native.Mathlib.Nat.{not-suc-le-zero}
 use native.Mathlib.Omega.{arith}
 use lib.ListN.{length, get_or, set, take, drop, length-take, length-drop}
 use lib.Seq.{get_or-drop, get_or-take, take-length}
+use lib.Dec.{leb}
+use borrow.Author.Tests.{leb-true}
 use Rattle.basics.proofs.Overwrites.{over-more}
-use Rattle.text.specs.Pairs.{hex_of, pair_values}
+use Rattle.text.specs.Numbers.{is_digit}
+use Rattle.text.specs.Pairs.{is_letter, hex_of, pair_values}
+use Rattle.text.proofs.Plain.{both}
 use Rattle.hex_pairs.specs.Answers.{decoded}
+use Rattle.hex_pairs.specs.Inner.{Nibble}
+
+-- ---- one digit
+
+range : (a b c : ℕ) → (leb a c && leb c b) ≡ true → (a ≤ c) × (c ≤ b)
+range a b c e = let t = both (leb a c) (leb c b) e in (leb-true a c t.0, leb-true c b t.1)
+
+pub letter-low : (c : ℕ) → is_letter c ≡ true → 97 ≤ c
+unfolding is_letter
+letter-low c e = (range 97 102 c e).0
+
+pub nibble-digit : (c : ℕ) → (leb 48 c && leb c 57) ≡ true → Nibble c (c - 48)
+unfolding hex_of is_digit
+nibble-digit c e = let r = range 48 57 c e in let a = r.0 in let b = r.1 in record { is = rw e; small = omega arith }
+
+pub nibble-letter : (c : ℕ) → (leb 48 c && leb c 57) ≡ false → is_letter c ≡ true → Nibble c (c - 97 + 10)
+unfolding hex_of is_digit is_letter
+nibble-letter c n e = let r = range 97 102 c e in let a = r.0 in let b = r.1 in record { is = rw (n, e) (omega arith); small = omega arith }
+
+pub nibble-none : (c : ℕ) → (leb 48 c && leb c 57) ≡ false → is_letter c ≡ false → Nibble c 0
+unfolding hex_of is_digit
+nibble-none c n e = record { is = rw (n, e); small = omega arith }
 
 -- ---- pairs
 

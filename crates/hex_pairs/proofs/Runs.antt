@@ -1,24 +1,28 @@
 -- Hexadecimal pairs: digits, runs of them, and the field that they are.
---     hex-next, hex-stop       one byte of a run
---     block-next               a block of a run
+--     run-position             where a run ends is where `position` finds no digit
+--     blocks-skipped, digits-stopped      what `position` found among the blocks, and among the bytes after them
 --     run-cut, run-ended, run-other    the field after which a run of digits ends
 -- Assumes nothing.
 use mathlib.Core.Path.{◌≡◌, refl, ap, sym, ◌∙◌}
-use mathlib.Core.Bool.{Bool, true, false, cond, ◌&&◌}
+use mathlib.Core.Bool.{Bool, true, false, cond, not, ◌&&◌}
 use mathlib.Core.List.{List, [], ◌∷◌, ◌++◌}
 use Prim.Native.Nat.{ℕ, zero, suc, ◌+◌, ◌-◌, ◌*◌, ◌/◌, ◌%◌, ◌≤◌, ◌<◌}
 use native.Mathlib.Nat.{not-suc-le-zero, le_of_suc-le-suc}
 use native.Mathlib.Omega.{arith}
 use lib.ListN.{length, get_or, take, drop, drop_of_length-le, length-drop}
 use lib.Seq.{get_or-drop, drop-drop, length-take-le, take-length}
-use lib.Dec.{eqb}
-use borrow.Author.Tests.{eq-eqb, ne_eqb}
-use Rattle.basics.proofs.Scans.{at-step, at-end, take_more}
+use lib.Dec.{eqb, ltb}
+use borrow.Author.Tests.{eq-eqb, ne_eqb, ltb-false}
+use Rattle.basics.proofs.Scans.{take_more}
 use Rattle.text.specs.Fields.{Field, field, missing, onto, field_to}
 use Rattle.text.specs.Numbers.{is_digit}
 use Rattle.text.specs.Pairs.{is_letter, is_hex, all_hex, is_pairs}
 use Rattle.text.proofs.Plain.{both}
-use Rattle.std.specs.Prelude.{Some, None}
+use Rattle.std.specs.Prelude.{Option, Some, None}
+use Rattle.std.specs.Option.{unwrap_or}
+use Rattle.std.specs.List.{position_or_len}
+use Rattle.std.proofs.lemmas.List.Recursion.{is_position_or_len}
+use Rattle.std.proofs.lemmas.List.Sums.{prefix_len-le-length}
 use Rattle.std.specs.Simd.{first_chunks}
 use Rattle.hex_pairs.specs.Answers.{pairs_at}
 use Rattle.hex_pairs.specs.Inner.{hexes, Skipped, Stopped}
@@ -48,18 +52,13 @@ all_more s i all digit h e q = rw (take_more s i 0 h, all_snoc (take i s) (get_o
 
 -- ---- a run of digits
 
-module _ (s : List ℕ) (i : ℕ) (h : i < length s) (digit : Bool) (q : digit ≡ is_hex (get_or s i 0)) where
-  pub hex-next : digit ≡ true → hexes (drop i s) ≡ suc (hexes (drop (i + 1) s))
-  unfolding hexes
-  hex-next n = at-step hexes s i 0 h ∙ simp (sym q, n)
+turned : (t : Bool) (n : ℕ) → cond t (suc n) 0 ≡ cond (not t) 0 (1 + n)
+turned true n = omega arith
+turned false n = refl
 
-  pub hex-stop : digit ≡ false → hexes (drop i s) ≡ 0
-  unfolding hexes
-  hex-stop n = at-step hexes s i 0 h ∙ simp (sym q, n)
-
-pub hex-out : (s : List ℕ) (i : ℕ) → length s ≤ i → hexes (drop i s) ≡ 0
+run-position : (xs : List ℕ) → hexes xs ≡ position_or_len (λ (c : ℕ). not (is_hex c)) xs
 unfolding hexes
-hex-out s i h = at-end hexes s i h
+run-position xs = is_position_or_len hexes (λ (c : ℕ). not (is_hex c)) refl (λ x ys. turned (is_hex x) (hexes ys)) xs
 
 block : (n : ℕ) (xs : List ℕ) → n ≤ length xs → all_hex (take n xs) ≡ true → hexes xs ≡ n + hexes (drop n xs)
 unfolding hexes all_hex
@@ -70,56 +69,76 @@ block (suc n) (x ∷ xs) h e =
     let r = block n xs (le_of_suc-le-suc h) t.1 in
     simp t.0 (omega (arith, r))
 
-pub block-next : (s : List ℕ) (i : ℕ) → 32 ≤ length s - i → all_hex (take 32 (drop i s)) ≡ true → i + hexes (drop i s) ≡ i + 32 + hexes (drop (i + 32) s)
-block-next s i h a =
-    let k : 32 ≤ length (drop i s) = rw length-drop h in
-    let b : hexes (drop i s) ≡ 32 + hexes (drop 32 (drop i s)) = block 32 (drop i s) k a in
-    let d : drop 32 (drop i s) ≡ drop (i + 32) s = drop-drop 32 i s in
-    let g : hexes (drop i s) ≡ 32 + hexes (drop (i + 32) s) = b ∙ ap (λ (l : List ℕ). 32 + hexes l) d in
+-- ---- skip_blocks and hex_end, by what `position` found
+
+abbrev pub no_block : List ℕ → Bool
+no_block b = not (all_hex b)
+
+abbrev pub no_digit : ℕ → Bool
+no_digit c = not (is_hex c)
+
+-- what `position` answers, or else the length, is the place
+found_or : (k n : ℕ) → k ≤ n → (r : Option ℕ) → r ≡ cond (ltb k n) (Some k) None → unwrap_or r n ≡ k
+found_or k n h r e = by-test (ltb k n) refl
+  where
+    by-test : (t : Bool) → ltb k n ≡ t → unwrap_or r n ≡ k
+    by-test true q = rw (e, q)
+    by-test false q = let z : n ≤ k = ltb-false k n q in rw (e, q) (omega arith)
+
+none-passed : (xs : List ℕ) → hexes xs ≡ 0 * 32 + hexes (drop (0 * 32) xs)
+none-passed xs = let z : 0 * 32 ≡ 0 = omega arith in let d : hexes (drop 0 xs) ≡ hexes xs = refl in rw z (omega arith)
+
+one-block : (t : Bool) (xs : List ℕ) (k : ℕ) → all_hex (take 32 xs) ≡ t → 32 ≤ length xs → hexes (drop 32 xs) ≡ k * 32 + hexes (drop (k * 32) (drop 32 xs))
+    → hexes xs ≡ cond (not (not t)) (1 + k) 0 * 32 + hexes (drop (cond (not (not t)) (1 + k) 0 * 32) xs)
+one-block true xs k e h r =
+    let b : hexes xs ≡ 32 + hexes (drop 32 xs) = block 32 xs h e in
+    let m : 32 + k * 32 ≡ (1 + k) * 32 = omega arith in
+    let d : drop (k * 32) (drop 32 xs) ≡ drop ((1 + k) * 32) xs = drop-drop (k * 32) 32 xs ∙ ap (λ (j : ℕ). drop j xs) m in
+    let g : hexes (drop 32 xs) ≡ k * 32 + hexes (drop ((1 + k) * 32) xs) = r ∙ ap (λ (l : List ℕ). k * 32 + hexes l) d in
     omega arith
+one-block false xs k e h r = none-passed xs
 
--- ---- skip_blocks and hex_end
+blocks-run : (n : ℕ) (xs : List ℕ) → n * 32 ≤ length xs
+    → hexes xs ≡ position_or_len no_block (first_chunks 32 n xs) * 32 + hexes (drop (position_or_len no_block (first_chunks 32 n xs) * 32) xs)
+blocks-run zero xs h = none-passed xs
+blocks-run (suc n) xs h =
+    let d : length (drop 32 xs) ≡ length xs - 32 = length-drop 32 xs in
+    one-block (all_hex (take 32 xs)) xs (position_or_len no_block (first_chunks 32 n (drop 32 xs))) refl (omega arith) (blocks-run n (drop 32 xs) (omega arith))
 
-chunk-at : (n k i : ℕ) (xs : List ℕ) → i < k → get_or (first_chunks n k xs) i [] ≡ take n (drop (i * n) xs)
-chunk-at n zero i xs h = absurd (omega arith)
-chunk-at n (suc k) zero xs h = let z : 0 * n ≡ 0 = omega arith in rw z
-chunk-at n (suc k) (suc i) xs h =
-    let e : n + i * n ≡ suc i * n = omega arith in
-    chunk-at n k i (drop n xs) (omega arith) ∙ ap (take n) (drop-drop (i * n) n xs ∙ ap (λ (m : ℕ). drop m xs) e)
+whole : (s : List ℕ) (i : ℕ) → take (length s - i) (drop i s) ≡ drop i s
+whole s i = ap (λ (j : ℕ). take j (drop i s)) (sym (length-drop i s)) ∙ take-length (drop i s)
 
-pub skip-start : (s : List ℕ) (from : ℕ) → from ≤ length s → Skipped s from from
-skip-start s from h = record { low = omega arith; high = h; same = refl }
-
-module _ (s : List ℕ) (from i : ℕ) (w : Skipped s from i) where
-  -- the block is the k-th of those from `from` on
-  pub skip_block : (blocks : List (List ℕ)) (k : ℕ) → blocks ≡ first_chunks 32 (length (take (length s - from) (drop from s)) / 32) (take (length s - from) (drop from s))
-      → length blocks ≡ length (take (length s - from) (drop from s)) / 32 → k < length blocks → i ≡ from + k * 32
-      → (digits : Bool) → digits ≡ all_hex (get_or blocks k []) → digits ≡ true → Skipped s from (i + 32)
-  skip_block blocks k b m h q digits e n =
-      let l = w.low in
+module _ (s : List ℕ) (from : ℕ) (h : from ≤ length s) where
+  pub blocks-skipped : (blocks : List (List ℕ)) → blocks ≡ first_chunks 32 (length (take (length s - from) (drop from s)) / 32) (take (length s - from) (drop from s))
+      → length blocks ≡ length (take (length s - from) (drop from s)) / 32
+      → (r : Option ℕ) → r ≡ cond (ltb (position_or_len no_block blocks) (length blocks)) (Some (position_or_len no_block blocks)) None
+      → Skipped s from (from + unwrap_or r (length blocks) * 32)
+  blocks-skipped blocks b m r e =
+      let t = whole s from in
       let d : length (drop from s) ≡ length s - from = length-drop from s in
-      let t : take (length s - from) (drop from s) ≡ drop from s = ap (λ (j : ℕ). take j (drop from s)) (sym d) ∙ take-length (drop from s) in
-      let g : k < length (drop from s) / 32 = let z = rw t at m in omega (arith, z) in
-      let x : get_or blocks k [] ≡ take 32 (drop i s) =
-      rw (b, t) (chunk-at 32 (length (drop from s) / 32) k (drop from s) g ∙ ap (take 32) (drop-drop (k * 32) from s ∙ ap (λ (j : ℕ). drop j s) (sym q))) in
-      record { low = omega arith; high = omega arith; same = w.same ∙ block-next s i (omega arith) (ap all_hex (sym x) ∙ sym e ∙ n) }
+      let l : position_or_len no_block blocks ≤ length blocks = prefix_len-le-length (λ (x : List ℕ). not (no_block x)) blocks in
+      let k : unwrap_or r (length blocks) ≡ position_or_len no_block blocks = found_or _ _ l r e in
+      let n : length blocks ≡ (length s - from) / 32 = m ∙ ap (λ (xs : List ℕ). length xs / 32) t ∙ ap (λ (j : ℕ). j / 32) d in
+      let q : blocks ≡ first_chunks 32 (length (drop from s) / 32) (drop from s) = b ∙ ap (λ (xs : List ℕ). first_chunks 32 (length xs / 32) xs) t in
+      let g = blocks-run (length (drop from s) / 32) (drop from s) (omega arith) in
+      let f : hexes (drop from s) ≡ position_or_len no_block blocks * 32 + hexes (drop (position_or_len no_block blocks * 32) (drop from s)) = rw q g in
+      let u : drop (position_or_len no_block blocks * 32) (drop from s) ≡ drop (from + position_or_len no_block blocks * 32) s = drop-drop (position_or_len no_block blocks * 32) from s in
+      let v : hexes (drop from s) ≡ position_or_len no_block blocks * 32 + hexes (drop (from + position_or_len no_block blocks * 32) s) = f ∙ ap (λ (xs : List ℕ). position_or_len no_block blocks * 32 + hexes xs) u in
+      rw k (record { low = omega arith; high = omega arith; same = omega arith })
 
-  module _ (h : i < length s) (digit : Bool) (q : digit ≡ is_hex (get_or s i 0)) where
-    pub skip-digit : digit ≡ true → Skipped s from (i + 1)
-    skip-digit n =
-        let l = w.low in
-        let b = w.same in
-        record { low = omega arith; high = omega arith; same = omega (arith, hex-next s i h digit q n) }
-
-    pub stop-here : digit ≡ false → Stopped s from i
-    stop-here n =
-        let b = w.same in
-        record { low = w.low; high = w.high; is = omega (arith, hex-stop s i h digit q n) }
-
-  pub stop-out : length s ≤ i → Stopped s from i
-  stop-out h =
-      let b = w.same in
-      record { low = w.low; high = w.high; is = omega (arith, hex-out s i h) }
+  pub digits-stopped : (start : ℕ) → Skipped s from start → (r : Option ℕ)
+      → r ≡ cond (ltb (position_or_len no_digit (take (length s - start) (drop start s))) (length (take (length s - start) (drop start s)))) (Some (position_or_len no_digit (take (length s - start) (drop start s)))) None
+      → Stopped s from (start + unwrap_or r (length (take (length s - start) (drop start s))))
+  digits-stopped start w r e =
+      let t = whole s start in
+      let d : length (drop start s) ≡ length s - start = length-drop start s in
+      let l : position_or_len no_digit (drop start s) ≤ length (drop start s) = prefix_len-le-length (λ (x : ℕ). not (no_digit x)) (drop start s) in
+      let k : unwrap_or r (length (take (length s - start) (drop start s))) ≡ position_or_len no_digit (drop start s) = rw t (found_or _ _ l r (e ∙ rw t)) in
+      let f = run-position (drop start s) in
+      let low = w.low in
+      let high = w.high in
+      let same = w.same in
+      rw k (record { low = omega arith; high = omega arith; is = omega arith })
 
 -- ---- the field after which a run of digits ends
 
@@ -240,4 +259,4 @@ module _ (s : List ℕ) (from r : ℕ) (w : Stopped s from r) where
           rw (run.is, run.hex, wide, eq-eqb _ _ n, e)
 
 -- all of them, for `search (rules, hexs)`
-pub ruleset hexs = (all_none, all_more, skip-start, skip_block, skip-digit, stop-here, stop-out, pairs-out, pairs-cut, pairs-other, pairs-odd, pairs-even)
+pub ruleset hexs = (all_none, all_more, pairs-out, pairs-cut, pairs-other, pairs-odd, pairs-even)

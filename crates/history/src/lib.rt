@@ -11,7 +11,7 @@ ghost use Rattle.model.specs.Answers.{Written};
 ghost use Rattle.history.specs.History.{is_kept, suggested_written};
 
 use ids_by_state::Pick;
-use model::LedgerRef;
+use model::{Durability, LedgerRef};
 use refusals::Refusal;
 
 // Committed and not torn.
@@ -21,7 +21,7 @@ impl Pick for IsKept {
     ghost picks = { is_kept };
 
     fn picks(_id: u32, state: u8, torn: u8) -> bool {
-        (state != 0) & (torn != 1)
+        (state != Durability::Attempted as u8) & (torn != 1)
     }
 }
 

@@ -1,4 +1,4 @@
-// Ids in a lent column: whether one stands there, and where it first does. Where oracle.rs asks a set, a column is scanned, by
+// Ids in a lent column: whether one stands there, and where it first does. Where oracle.rs asks a set, here is no heap, and a column is scanned, by
 // blocks of 32: the library's `contains` and `position` take up to twice as long on long columns. Each promise is an equation with a
 // definition of specs/.
 #![tactic(auto)]
@@ -18,7 +18,9 @@ fn any_is(column: &[u32], id: u32) -> bool
 }
 
 // A place that `id` does not stand before: the start of the first block that has it, or of what is left behind the last block. It
-// stands in its two callers' code, where a call would be a tenth of the time.
+// stands in its two callers' code, where a call would be a tenth of the time. A loop: `position` over the blocks took a quarter
+// longer on 512 ids. The other scans by blocks, of `device`, `device_questions` and `hex_pairs`, share no code with it: they go
+// over bytes, one or two columns of them, and ask for a place, or only whether there is one.
 #[inline(always)]
 fn skip(column: &[u32], id: u32) -> usize
     ensures inside { result ≤ length column.now }
@@ -46,7 +48,7 @@ pub fn contains(column: &[u32], id: u32) -> bool
     any_is(&column[start..], id)
 }
 
-// Where `id` first stands in a column of ids.
+// Where `id` first stands in a column of ids. Behind the blocks passed it goes place by place: `position` took an eighth longer.
 pub fn first_place(column: &[u32], id: u32) -> Option<usize>
     ensures { result ≡ place_of id column.now }
 {

@@ -1,19 +1,19 @@
 -- The ids that a test picks, as a loop over the rows of the columns gathers them.
 --     Rows, rows_left                    the loop's iterator, and what it has left of the ledger
 --     row-picked, row-left, rows-end     a turn of the loop, and its end
---     picked-short                       they are no more than the ids
+--     row_test, rows-picked              as many rows are picked as ids
 -- Assumes nothing.
-use mathlib.Core.Path.{◌≡◌, refl, sym, ◌∙◌}
+use mathlib.Core.Path.{◌≡◌, refl, sym, ap, ◌∙◌}
 use mathlib.Core.Logic.{◌⊎◌, inl, inr, ⊎_elim}
 use mathlib.Core.Bool.{Bool, true, false, cond}
 use mathlib.Core.List.{List, [], ◌∷◌}
-use Prim.Native.Nat.{ℕ, suc, ◌≤◌}
+use Prim.Native.Nat.{ℕ, suc}
 use native.Mathlib.Nat.{suc-ne-zero}
-use native.Mathlib.Omega.{arith}
 use lib.ListN.{length}
 use denote.Ref.{Bor}
 use Rattle.std.proofs.Common.{Iter}
 use Rattle.std.specs.Prelude.{None, Some}
+use Rattle.std.specs.List.{filter, zip}
 use Rattle.std.specs.declared.iter.Zip.{Zip}
 use Rattle.std.specs.Iterator.Adapters.{zip_first, zip_second, zip_steps}
 use Rattle.std.specs.Slice.Iter.{iter_rest, iter_steps}
@@ -51,14 +51,19 @@ module _ (test : Entry → Bool) where
   pub rows-end : (s t : Rows) → zip_steps (zip_steps iter_steps iter_steps) iter_steps s None t → picked_ids test (rows_left s) ≡ []
   rows-end s t e = none-left _ _ _ (⊎_elim (λ w. inl (⊎_elim (λ v. inl v.1.0) (λ v. inr v.1.0) w.1)) (λ w. inr w.1.0) e)
 
-  pub picked-short : (is ss ts : List ℕ) → length (picked_ids test (ledger_of is ss ts)) ≤ length is
+  -- the same of the rows as an iterator gives them
+  abbrev pub row_test : (ℕ × ℕ) × ℕ → Bool
+  row_test r = test (entry_of r.0.0 r.0.1 r.1)
+
+  pub rows-picked : (is ss ts : List ℕ) → length (filter row_test (zip (zip is ss) ts)) ≡ length (picked_ids test (ledger_of is ss ts))
   unfolding ids picked ledger_of
-  picked-short [] ss ts = omega arith
-  picked-short (i ∷ is) [] ts = omega arith
-  picked-short (i ∷ is) (s ∷ ss) [] = omega arith
-  picked-short (i ∷ is) (s ∷ ss) (t ∷ ts) = step (picked-short is ss ts) (test (entry_of i s t))
+  rows-picked [] ss ts = refl
+  rows-picked (i ∷ is) [] ts = refl
+  rows-picked (i ∷ is) (s ∷ ss) [] = refl
+  rows-picked (i ∷ is) (s ∷ ss) (t ∷ ts) = step (rows-picked is ss ts) (test (entry_of i s t))
     where
-      step : length (ids (picked test (ledger_of is ss ts))) ≤ length is → (b : Bool)
-          → length (ids (cond b (entry_of i s t ∷ picked test (ledger_of is ss ts)) (picked test (ledger_of is ss ts)))) ≤ suc (length is)
-      step h true = omega (arith, h)
-      step h false = omega (arith, h)
+      step : length (filter row_test (zip (zip is ss) ts)) ≡ length (ids (picked test (ledger_of is ss ts))) → (b : Bool)
+          → length (cond b (((i, s), t) ∷ filter row_test (zip (zip is ss) ts)) (filter row_test (zip (zip is ss) ts)))
+          ≡ length (ids (cond b (entry_of i s t ∷ picked test (ledger_of is ss ts)) (picked test (ledger_of is ss ts))))
+      step h true = ap suc h
+      step h false = h

@@ -12,7 +12,7 @@ ghost use Rattle.model.specs.Columns.{entry_of, ledger_of};
 ghost use Rattle.model.specs.Ledger.{Entry, is_committed, is_acknowledged};
 ghost use Rattle.ids_by_state.specs.Answers.{picked_ids, picked_written, committed_written, acknowledged_written};
 
-use model::LedgerRef;
+use model::{Durability, LedgerRef};
 use refusals::Refusal;
 
 // Which entries of a ledger are meant, told of a row of its columns.
@@ -30,7 +30,7 @@ impl Pick for IsCommitted {
     ghost picks = { is_committed };
 
     fn picks(_id: u32, state: u8, _torn: u8) -> bool {
-        1 <= state
+        Durability::PossiblyDurable as u8 <= state
     }
 }
 
@@ -41,7 +41,7 @@ impl Pick for IsAcknowledged {
     ghost picks = { is_acknowledged };
 
     fn picks(_id: u32, state: u8, _torn: u8) -> bool {
-        2 <= state
+        Durability::Acknowledged as u8 <= state
     }
 }
 
@@ -49,16 +49,17 @@ impl Pick for IsAcknowledged {
 fn count<T: Pick>(ledger: &LedgerRef<'_>) -> usize
     ensures { result ≡ length (picked_ids T.picks (ledger_of ledger.now.ids.now ledger.now.states.now ledger.now.torn.now)) }
 {
-    let mut n = 0;
-    for ((id, state), torn) in ledger.ids.iter().zip(ledger.states).zip(ledger.torn) {
-        if T::picks(*id, *state, *torn) {
-            n += 1;
-        }
-    }
-    n
+    ledger
+        .ids
+        .iter()
+        .zip(ledger.states)
+        .zip(ledger.torn)
+        .filter(|((id, state), torn)| T::picks(**id, **state, **torn))
+        .count()
 }
 
-// Writes those ids into a column that has room for them, in order from its front.
+// Writes those ids into a column that has room for them, in order from its front. (By a count: of what a `zip` of `iter_mut` wrote
+// a proof knows the length alone.)
 fn fill<T: Pick>(ledger: &LedgerRef<'_>, column: &mut [u32])
     requires { length (picked_ids T.picks (ledger_of ledger.now.ids.now ledger.now.states.now ledger.now.torn.now)) ≤ length column.old }
     ensures { column.new ≡ picked_ids T.picks (ledger_of ledger.now.ids.now ledger.now.states.now ledger.now.torn.now) ++ drop (length (picked_ids T.picks (ledger_of ledger.now.ids.now ledger.now.states.now ledger.now.torn.now))) column.old }

@@ -4,3 +4,4 @@ pub mod Points
 pub mod Answers
 pub mod Claims
 pub mod Steps
+pub mod Codes

@@ -15,7 +15,7 @@ use Rattle.inject.specs.Ops.{op_of}
 use Rattle.inject.specs.Points.{progresses, point}
 use Rattle.inject.specs.Answers.{most}
 
--- ---- a list that is not refused
+-- ---- a list of three columns of one length
 
 pub record Sound (g : Geometry) (kinds offsets lens : List ℕ) : Type 0 where
   pub offsets-equal : length kinds ≡ length offsets

@@ -2,7 +2,7 @@
 ghost use Rattle.std.specs.Prelude.{◌*◌, ◌≤◌, ◌<◌, ◌^◌};
 
 // One operation's points under one interruption: how many none points (0 or 1), how many byte points, which are the first
-// multiples of a unit, and how many whole points (0 or 1).
+// multiples of a unit, and how many whole points (0 or 1). (Counts and no flags: they are added up.)
 #[derive(Clone, Copy, Debug, PartialEq, Eq)]
 pub struct Group {
     pub nones: u32,

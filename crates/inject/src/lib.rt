@@ -11,18 +11,21 @@ ghost use Rattle.refusals.specs.Numbers.{number_of};
 ghost use Rattle.inject.specs.Ops.{op_of, ops_of, known, len_of};
 ghost use Rattle.inject.specs.Points.{inner, whole_span, whole_point, under};
 ghost use Rattle.inject.specs.Answers.{list_test, points_of, counted_beside, counted, found, progress_code, count_code};
+ghost use Rattle.inject.specs.Codes.{progress_of, interruption_of};
 ghost use Rattle.inject.specs.Steps.{op_at, tear_unit, reset_unit, steps, grouped, GroupOf, lone_point, lone_for, sought, onward};
 
 mod group;
 
+use basics::cell;
 pub use group::Group;
 use refusals::Refusal;
 use storage::Geometry;
 
-// As many operations as a list may have.
+// As many operations as a list may have. (A session's limit is the same number, which document 01 says of each for itself.)
 const MOST: usize = 1024;
 
-// One operation of a write sequence: offsets and lengths only.
+// One operation of a write sequence: offsets and lengths only. (`Op` and `Progress` have three meanings of their own, and are none of
+// Option's or Result's shape; document 01 names Progress.)
 #[derive(Clone, Copy, Debug, PartialEq, Eq)]
 pub enum Op {
     Program { offset: u32, len: u32 },
@@ -61,7 +64,8 @@ pub struct Injection {
     pub interruption: Interruption,
 }
 
-// A list of operations, as the caller lends it: a row of the three columns for each.
+// A list of operations, as the caller lends it: a row of the three columns for each. (Clauses name the three, as the definitions take
+// them.)
 #[derive(Clone, Copy)]
 pub struct OpsRef<'a> {
     pub kinds: &'a [u8],
@@ -69,7 +73,8 @@ pub struct OpsRef<'a> {
     pub lens: &'a [u32],
 }
 
-// A list of operations that nothing refuses, on its geometry.
+// A list of operations whose columns are of one length, with no more rows than a list may have, on its geometry. (Used where it is
+// made, so nothing compares it.)
 #[derive(Clone, Copy)]
 pub struct Sequence<'a> {
     pub ops: OpsRef<'a>,
@@ -77,7 +82,30 @@ pub struct Sequence<'a> {
     ghost sound: { (length ops.kinds.now ≡ length ops.offsets.now) × (length ops.kinds.now ≡ length ops.lens.now) × (length ops.kinds.now ≤ 1024) },
 }
 
+impl From<u32> for Interruption {
+    ghost from_gives = { λ cause interruption. interruption ≡ interruption_of cause };
+
+    fn from(cause: u32) -> Interruption {
+        match cause {
+            0 => Interruption::PowerLoss,
+            1 => Interruption::Watchdog,
+            _ => Interruption::Failure,
+        }
+    }
+}
+
 impl Progress {
+    // The progress of a code and a byte count. (No `From`: it is made of two numbers.)
+    pub fn of(kind: u32, count: u32) -> Progress
+        ensures { result ≡ progress_of kind count }
+    {
+        match kind {
+            0 => Progress::None,
+            1 => Progress::Bytes(count),
+            _ => Progress::Whole,
+        }
+    }
+
     // Its code in a column: 0 none, 1 a byte count, 2 whole. (`as` takes no enum whose variants hold a value.)
     pub fn code(self) -> u8
         ensures { result ≡ progress_code self }
@@ -173,25 +201,31 @@ impl Op {
             },
         }
     }
+
+    // Its points under an interruption. None of an operation is the end of the one before it to a power loss, and a point of
+    // its own to the other two.
+    fn group(self, geometry: Geometry, cause: Interruption) -> Group
+        ensures { GroupOf geometry cause self result }
+    {
+        let (nones, unit) = match cause {
+            Interruption::PowerLoss => (0, self.tear_unit(geometry)),
+            Interruption::Watchdog => (1, self.reset_unit(geometry)),
+            Interruption::Failure => (1, self.tear_unit(geometry)),
+        };
+        Group {
+            nones,
+            unit,
+            inner: inner_count(unit, self.len()),
+            wholes: self.wholes(cause),
+        }
+    }
 }
 
-// A row's points under an interruption. None of an operation is the end of the one before it to a power loss, and a point
-// of its own to the other two.
+// A row's points under an interruption, by the row's numbers. (No crate here calls it; it was public before `group_at`.)
 pub fn group_of(kind: u8, offset: u32, len: u32, geometry: Geometry, cause: Interruption) -> Group
     ensures { GroupOf geometry cause (op_of kind offset len) result }
 {
-    let op = op_of(kind, offset, len);
-    let (nones, unit) = match cause {
-        Interruption::PowerLoss => (0, op.tear_unit(geometry)),
-        Interruption::Watchdog => (1, op.reset_unit(geometry)),
-        Interruption::Failure => (1, op.tear_unit(geometry)),
-    };
-    Group {
-        nones,
-        unit,
-        inner: inner_count(unit, op.len()),
-        wholes: op.wholes(cause),
-    }
+    op_of(kind, offset, len).group(geometry, cause)
 }
 
 impl Group {
@@ -220,7 +254,8 @@ impl Group {
     }
 }
 
-// Whether every code of the column has a meaning.
+// Whether every code of the column has a meaning. (`model` asks the like of its columns: one function for both would lie in `basics`, and
+// take the definitions of both along.)
 fn all_known(kinds: &[u8]) -> bool
     ensures { result ≡ known kinds.now }
 {
@@ -266,6 +301,17 @@ fn seek_lone(before: Result<Injection, u64>, operations: usize) -> Result<Inject
 }
 
 impl OpsRef<'_> {
+    // The operation in a row; a column that ends before it gives 0.
+    pub fn op_at(&self, row: usize) -> Op
+        ensures { result ≡ op_at self.now.kinds.now self.now.offsets.now self.now.lens.now row }
+    {
+        op_of(
+            cell(self.kinds, row, 0),
+            cell(self.offsets, row, 0),
+            cell(self.lens, row, 0),
+        )
+    }
+
     // What refuses a list of operations. `equal` tells whether the columns lent for points are of one length.
     fn refuse(&self, geometry: Geometry, equal: bool) -> Result<(), Refusal>
         ensures { number_in number_of result ≡ list_test geometry self.now.kinds.now self.now.offsets.now self.now.lens.now equal }
@@ -318,20 +364,13 @@ impl OpsRef<'_> {
 impl Sequence<'_> {
     // The points of the operation in a row, under an interruption.
     pub fn group_at(&self, row: usize, cause: Interruption) -> Group
-        requires { row < length self.now.ops.kinds.now }
         ensures { GroupOf self.now.geometry cause (op_at self.now.ops.kinds.now self.now.ops.offsets.now self.now.ops.lens.now row) result }
     {
-        let ops = self.ops;
-        group_of(
-            ops.kinds[row],
-            ops.offsets[row],
-            ops.lens[row],
-            self.geometry,
-            cause,
-        )
+        self.ops.op_at(row).group(self.geometry, cause)
     }
 
-    // How many points the operations have under an interruption.
+    // How many points the operations have under an interruption. (A loop, and no `map` and `sum`: that the
+    // sum fits into a u64 is a fact of each step.)
     fn total(&self, cause: Interruption) -> u64
         ensures { (result ≡ length (under self.now.geometry cause 0 (ops_of self.now.ops.kinds.now self.now.ops.offsets.now self.now.ops.lens.now))) × (result ≤ 4294967297 * 1024) }
     {
@@ -354,7 +393,7 @@ impl Sequence<'_> {
         1 + lost + alone + reset + failed
     }
 
-    // A search goes on: in the operations' points under an interruption.
+    // A search goes on: in the operations' points under an interruption. (A loop, as `total`.)
     fn seek(&self, before: Result<Injection, u64>, cause: Interruption) -> Result<Injection, u64>
         ensures { result ≡ onward before (under self.now.geometry cause 0 (ops_of self.now.ops.kinds.now self.now.ops.offsets.now self.now.ops.lens.now)) }
     {
@@ -377,7 +416,7 @@ impl Sequence<'_> {
         Err(left)
     }
 
-    // A search in the whole list, part by part. Not by `or_else`: a proof learns nothing of a closure that calls a method of `self`.
+    // A search in the whole list, part by part, each from what the one before left: by `or_else` the four would stand in one another.
     fn point_at(&self, place: u64) -> Result<Injection, u64>
         ensures { result ≡ sought (points_of self.now.geometry self.now.ops.kinds.now self.now.ops.offsets.now self.now.ops.lens.now) place }
     {

@@ -115,45 +115,16 @@ fn print_list(rt: &impl Print, list: &OpsRef<'_>, geometry: Geometry) -> io::Res
     print_columns(rt, list, geometry)
 }
 
-// How many operations the list has.
-fn operations_of(list: usize) -> usize
-    ensures { result ≤ 3 }
+// A list of so many operations: a first, a second, and a third that these two tell.
+fn list_case(
+    rt: &impl Print,
+    operations: usize,
+    first: usize,
+    second: usize,
+    geometry: Geometry,
+) -> io::Result<()>
+    requires { (operations ≤ 3) × (first < 7) × (second < 7) }
 {
-    match list {
-        0 => 0,
-        1..8 => 1,
-        8..57 => 2,
-        _ => 3,
-    }
-}
-
-// Which operation stands first in the list.
-fn first_of(list: usize) -> usize
-    requires { list < 106 }
-    ensures { result < 7 }
-{
-    match list {
-        0..8 => (list + 6) % 7,
-        8..57 => (list - 8) / 7,
-        _ => (list - 57) / 7,
-    }
-}
-
-// Which operation stands second: the pairs of 7 operations come twice, with and without a third.
-fn second_of(list: usize) -> usize
-    requires { list < 106 }
-    ensures { result < 7 }
-{
-    (list + 6) % 7
-}
-
-// The empty list, each operation alone, each pair, and each pair with a third.
-fn list_case(rt: &impl Print, list: usize, geometry: Geometry) -> io::Result<()>
-    requires { list < 106 }
-{
-    let operations = operations_of(list);
-    let first = first_of(list);
-    let second = second_of(list);
     let third = (first + second * 2) % 7;
     let kinds = [KINDS[first], KINDS[second], KINDS[third]];
     let offsets = [0u32, 16, 32];
@@ -166,30 +137,29 @@ fn list_case(rt: &impl Print, list: usize, geometry: Geometry) -> io::Result<()>
     print_list(rt, &operations_of_list, geometry)
 }
 
-fn list_cases(rt: &impl Print, geometry: Geometry) -> io::Result<()> {
-    for list in 0..106 {
-        list_case(rt, list, geometry)?;
+// Each pair, alone or with a third.
+fn pair_cases(rt: &impl Print, operations: usize, geometry: Geometry) -> io::Result<()>
+    requires { operations ≤ 3 }
+{
+    for first in 0..7 {
+        for second in 0..7 {
+            list_case(rt, operations, first, second, geometry)?;
+        }
     }
     Ok(())
 }
 
+// The empty list, each operation alone, each pair, and each pair with a third.
+fn list_cases(rt: &impl Print, geometry: Geometry) -> io::Result<()> {
+    list_case(rt, 0, 0, 0, geometry)?;
+    for first in 0..7 {
+        list_case(rt, 1, first, 0, geometry)?;
+    }
+    pair_cases(rt, 2, geometry)?;
+    pair_cases(rt, 3, geometry)
+}
+
 fn main(rt: HostRuntime) -> io::Result<()> {
-    list_cases(
-        &rt,
-        Geometry {
-            capacity: 48,
-            erase_size: 8,
-            program_size: 4,
-            read_size: 1,
-        },
-    )?;
-    list_cases(
-        &rt,
-        Geometry {
-            capacity: 48,
-            erase_size: 4,
-            program_size: 1,
-            read_size: 1,
-        },
-    )
+    list_cases(&rt, storage::units(48, 8, 4, 1))?;
+    list_cases(&rt, storage::units(48, 4, 1, 1))
 }

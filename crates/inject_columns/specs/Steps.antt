@@ -11,7 +11,7 @@ use Rattle.inject.specs.Answers.{points_of, progress_code, count_code, interrupt
 use Rattle.inject.specs.Steps.{steps}
 use Rattle.inject_columns.specs.Answers.{PointColumns, columns_of}
 
--- ---- the points of a list that nothing refuses
+-- ---- the points of a list of three columns of one length
 
 -- those of its operations, under an interruption
 abbrev pub under_of : Sequence → Interruption → List Injection

@@ -26,6 +26,8 @@ pub struct PointsMut<'a> {
     pub interruptions: &'a mut [u8],
 }
 
+// Each of these is told the place that it begins at, and those that write several rows give the place behind them: a struct of the columns
+// and a place would hold a reference to a struct of references, and every clause would speak through both.
 impl PointsMut<'_> {
     // Whether the columns are of one length.
     fn are_equal(&self) -> bool

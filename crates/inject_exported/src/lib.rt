@@ -2,7 +2,8 @@
 // slices in, a number out. Each function takes the layer's values from numbers, makes one call, and gives the answer as
 // numbers, so that a comparison of the numbers is one of the layer: a list of operations is three columns, a geometry is its
 // four units, a point is its row of the layer's columns, an answer is document 01's number, 0 where nothing is refused. A
-// slice crosses as a pointer, then a length; a reference as a pointer.
+// slice crosses as a pointer, then a length, so a list's columns cross one by one; a reference as a pointer. (Each function matches its
+// answer for itself: the arms show what a refusal leaves.)
 #![tactic(auto)]
 
 ghost use Rattle.std.specs.Prelude.{◌≡◌};
@@ -14,7 +15,6 @@ ghost use Rattle.inject_exported.specs.Inject.{count_over, point_in, point_over,
 use basics::{Numbered, store};
 use inject::{Injection, OpsRef};
 use inject_columns::PointsMut;
-use storage::Geometry;
 
 // Puts a point's four numbers into the first four places.
 fn keep(point: &mut [u64], injection: Injection)
@@ -41,12 +41,7 @@ pub extern "C" fn inject_count(
 ) -> u32
     ensures { (result ≡ count_test (geometry_of capacity erase program read) kinds.now offsets.now lens.now) × (points.new ≡ count_over (geometry_of capacity erase program read) kinds.now offsets.now lens.now points.old) }
 {
-    let geometry = Geometry {
-        capacity,
-        erase_size: erase,
-        program_size: program,
-        read_size: read,
-    };
+    let geometry = storage::units(capacity, erase, program, read);
     let list = OpsRef {
         kinds,
         offsets,
@@ -77,12 +72,7 @@ pub extern "C" fn inject_at(
 ) -> u32
     ensures { (result ≡ place_test (geometry_of capacity erase program read) kinds.now offsets.now lens.now place) × (point.new ≡ point_over (geometry_of capacity erase program read) kinds.now offsets.now lens.now place point.old) }
 {
-    let geometry = Geometry {
-        capacity,
-        erase_size: erase,
-        program_size: program,
-        read_size: read,
-    };
+    let geometry = storage::units(capacity, erase, program, read);
     let list = OpsRef {
         kinds,
         offsets,
@@ -116,12 +106,7 @@ pub extern "C" fn inject_all(
 ) -> u32
     ensures { (result ≡ write_test (geometry_of capacity erase program read) kinds.now offsets.now lens.now (columns_of ops.old progresses.old counts.old interruptions.old)) × (columns_of ops.new progresses.new counts.new interruptions.new ≡ columns_over (geometry_of capacity erase program read) kinds.now offsets.now lens.now (columns_of ops.old progresses.old counts.old interruptions.old)) × (rows.new ≡ rows_over (geometry_of capacity erase program read) kinds.now offsets.now lens.now (columns_of ops.old progresses.old counts.old interruptions.old) rows.old) }
 {
-    let geometry = Geometry {
-        capacity,
-        erase_size: erase,
-        program_size: program,
-        read_size: read,
-    };
+    let geometry = storage::units(capacity, erase, program, read);
     let list = OpsRef {
         kinds,
         offsets,

@@ -4,6 +4,8 @@
 
 use printing::ENOUGH;
 
+// (`sweep` has these lines but for the program: three calls, each with its promise. A function for both would be a fourth to promise and
+// to prove, and say no more than the three.)
 fn main(rt: HostRuntime) {
     let mut text = [0u8; ENOUGH];
     let mut input = rt.stdin();

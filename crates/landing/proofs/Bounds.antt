@@ -1,5 +1,5 @@
 -- No more lands than the length; and what the code lands is the definition's, of a program and of an erase. Assumes nothing.
-use mathlib.Core.Path.{◌≡◌, refl}
+use mathlib.Core.Path.{◌≡◌, refl, ap, ◌∙◌}
 use mathlib.Core.Bool.{Bool, true, false, cond}
 use Prim.Native.Nat.{ℕ, ◌+◌, ◌-◌, ◌*◌, ◌/◌, ◌≤◌, min, zero-le}
 use native.Mathlib.Nat.{le_refl, le_trans, min-le_right, div-mul-le_self, div-one, mul-one}
@@ -71,3 +71,11 @@ cut-by-le Failure n len step unit h = down_le n len step h
 
 pub landed-by-le : (j : Injection) (len step unit : ℕ) → landed_by j len step unit ≤ len
 landed-by-le j len step unit = cut-by-le j.interruption (offered j.progress len) len step unit (offered-le j.progress len)
+
+-- what the code lands is what each one's definition says
+pub landed-so : (j : Injection) (len step unit x : ℕ) → x ≡ landed_by j len step unit
+    → (step ≡ 1 → x ≡ program_landed j len unit) × (step ≡ unit → x ≡ erase_landed j len unit)
+landed-so j len step unit x e = (
+  (λ s. e ∙ ap (λ k. landed_by j len k unit) s ∙ program-landed-by j len unit),
+  (λ s. e ∙ ap (λ k. landed_by j len k unit) s ∙ erase-landed-by j len unit),
+)

@@ -1,2 +1,3 @@
 -- Laws of landing's definitions, each under what it is about.
 pub mod Bounds
+pub mod Multiples

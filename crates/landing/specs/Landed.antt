@@ -38,13 +38,7 @@ erase_by Failure n len block = rounded_down n block
 abbrev pub erase_landed : Injection → (len block : ℕ) → ℕ
 erase_landed j len block = erase_by j.interruption (offered j.progress len) len block
 
--- "A barrier under none or count 0 did not run (not completed); under any other progress it completed."
-abbrev pub ran : Progress → Bool
-ran None = false
-ran (Bytes count) = not (eqb count 0)
-ran Whole = true
-
--- the same of either, as the code has it: a program stops at any byte (its step is 1), an erase between blocks
+-- a program and an erase in one, as the code has them: a program stops at any byte (its step is 1), an erase between blocks
 abbrev pub cut_by : Interruption → (n len step unit : ℕ) → ℕ
 cut_by PowerLoss n len step unit = rounded_down n step
 cut_by Watchdog n len step unit = rounded_up n len unit
@@ -52,3 +46,9 @@ cut_by Failure n len step unit = rounded_down n step
 
 abbrev pub landed_by : Injection → (len step unit : ℕ) → ℕ
 landed_by j len step unit = cut_by j.interruption (offered j.progress len) len step unit
+
+-- "A barrier under none or count 0 did not run (not completed); under any other progress it completed."
+abbrev pub ran : Progress → Bool
+ran None = false
+ran (Bytes count) = not (eqb count 0)
+ran Whole = true

@@ -6,7 +6,7 @@
 ghost use Rattle.std.specs.Prelude.{◌≡◌};
 ghost use Rattle.basics.specs.Replies.{number_in};
 ghost use Rattle.refusals.specs.Numbers.{number_of};
-ghost use Rattle.landing.specs.Landed.{offered, rounded_up, rounded_down, landed_by, ran};
+ghost use Rattle.landing.specs.Landed.{offered, rounded_up, rounded_down, landed_by, program_landed, erase_landed, ran};
 ghost use Rattle.landing.specs.Ending.{ending_of, ended_as, stop_number};
 
 use inject::{Injection, Interruption, Progress};
@@ -46,8 +46,7 @@ fn unit_completed(landed: u32, len: u32, unit: u32) -> u32
     if unit == 0 {
         return landed;
     }
-    let whole = unit as u64;
-    let raised = (landed as u64 + (whole - 1)) / whole * whole;
+    let raised = (landed as u64).next_multiple_of(unit as u64);
     raised.min(len as u64) as u32
 }
 
@@ -65,7 +64,9 @@ fn steps_of(landed: u32, step: u32) -> u32
 // the unit in flight complete; whatever else cuts it short leaves whole steps: bytes of a program (whose step is 1), blocks of
 // an erase (whose step and unit are the erase block).
 pub fn landed_at(injection: Injection, len: u32, step: u32, unit: u32) -> u32
-    ensures { result ≡ landed_by injection len step unit }
+    ensures landed { result ≡ landed_by injection len step unit }
+    ensures program { step ≡ 1 → result ≡ program_landed injection len unit }
+    ensures erase { step ≡ unit → result ≡ erase_landed injection len unit }
 {
     let bytes = landed(injection.progress, len);
     match injection.interruption {

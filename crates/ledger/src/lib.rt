@@ -19,18 +19,10 @@ ghost use Rattle.ledger.specs.Scans.{lent_number, begins, next_of, filled, enter
 use basics::{lower, store};
 use model::{LedgerMut, all_up_to};
 use records::Facts;
-use refusals::Refusal;
+use refusals::{Refusal, columns_refusal};
 use session::{Counters, LogRef, MARKS, MarksRef, OPERATIONS, Told};
 
 // ---- tests
-
-// Whether the ledger's columns are unequal.
-fn entries_uneven(entries: &LedgerMut<'_>) -> bool
-    ensures { result ≡ entries_uneven_in (entered_in entries.now) }
-{
-    let rows = entries.ids.len();
-    (entries.states.len() != rows) | (entries.torn.len() != rows)
-}
 
 // Whether none of the first `count` codes is above `top`.
 pub fn known(codes: &[u8], count: usize, top: u8) -> bool
@@ -61,7 +53,8 @@ pub fn counts_short(counters: Counters, kinds: usize, codes: usize) -> bool
         | (codes < counters.marks)
 }
 
-// What refuses a run, whatever its ledger: 7, 12 and 13, in this order.
+// What refuses a run: 7, 12 and 13, in this order, all but the room for its ledger, of whose columns `uneven` tells. (The session's parts
+// are lent one by one, as document 01 has them apart; `Told` and `Counters` hold what goes by value.)
 fn refusal(
     told: Told,
     counters: Counters,
@@ -74,13 +67,9 @@ fn refusal(
     ensures { number_in number_of result ≡ lent_number told counters (length media.now) (length copy.now) (log_seen log.now) (marks_seen marks.now) uneven }
 {
     session::size_refusal(told.geometry, media.len(), copy.len())?;
-    if log.uneven() | marks.uneven() | uneven | !codes_known(counters, log, marks) {
-        return Err(Refusal::MalformedColumns);
-    }
-    if counts_short(counters, log.kinds.len(), marks.codes.len()) {
-        return Err(Refusal::ColumnsTooShort);
-    }
-    Ok(())
+    let malformed = log.uneven() | marks.uneven() | uneven | !codes_known(counters, log, marks);
+    let short = counts_short(counters, log.kinds.len(), marks.codes.len());
+    columns_refusal(malformed, short)
 }
 
 // ---- what is found once
@@ -103,50 +92,49 @@ fn outstanding(counters: Counters, media: &[u8], copy: &[u8]) -> bool
 
 // ---- all of them
 
-// The operations and marks that count, with what is found once. A mark is a row of the last three columns.
+// The operations and marks that count, with what is found once.
 #[derive(Clone, Copy)]
 struct Counted<'a> {
     facts: Facts,
     kinds: &'a [u8],
     changed: &'a [u8],
-    codes: &'a [u8],
-    ids: &'a [u32],
-    places: &'a [u64],
-    ghost even: { (length ids.now ≡ length codes.now) × (length places.now ≡ length codes.now) },
+    marks: MarksRef<'a>,
+    ghost even: { (length marks.ids.now ≡ length marks.codes.now) × (length marks.places.now ≡ length marks.codes.now) },
 }
 
 impl Counted<'_> {
     // How many entries there are: a mark that begins a record has one.
     fn begins(&self) -> usize
-        ensures { result ≡ begins self.now.codes.now }
+        ensures { result ≡ begins self.now.marks.codes.now }
     {
-        self.codes.iter().filter(|code| **code == 1).count()
+        self.marks.codes.iter().filter(|code| **code == 1).count()
     }
 
     // Where the next mark stands, or the last operation.
     fn next_place(&self, at: usize) -> usize
-        requires { at < length self.now.codes.now }
-        ensures { result ≡ next_of (length self.now.kinds.now) (drop (at + 1) self.now.places.now) }
+        requires { at < length self.now.marks.codes.now }
+        ensures { result ≡ next_of (length self.now.kinds.now) (drop (at + 1) self.now.marks.places.now) }
     {
-        self.places
+        self.marks
+            .places
             .get(at + 1)
             .map_or(self.kinds.len(), |place| *place as usize)
     }
 
     // The mark at a place: a begin becomes the entry at `n`. How many entries there are then.
     fn enter(&self, at: usize, n: usize, entries: &mut LedgerMut<'_>) -> usize
-        requires { (n ≤ at) × (at < length self.now.codes.now) }
+        requires { (n ≤ at) × (at < length self.now.marks.codes.now) }
         ensures same { SameLedger entries.old entries.new }
-        ensures left { filled result (entered_in entries.new) ≡ entering self.now.facts self.now.kinds.now self.now.changed.now (get_or self.now.codes.now at 0) (get_or self.now.ids.now at 0) (get_or self.now.places.now at 0) (next_of (length self.now.kinds.now) (drop (at + 1) self.now.places.now)) (filled n (entered_in entries.old)) }
+        ensures left { filled result (entered_in entries.new) ≡ entering self.now.facts self.now.kinds.now self.now.changed.now (get_or self.now.marks.codes.now at 0) (get_or self.now.marks.ids.now at 0) (get_or self.now.marks.places.now at 0) (next_of (length self.now.kinds.now) (drop (at + 1) self.now.marks.places.now)) (filled n (entered_in entries.old)) }
         ensures more { result ≤ n + 1 }
     {
-        if self.codes[at] != 1 {
+        if self.marks.codes[at] != 1 {
             return n;
         }
-        let from = self.places[at] as usize;
+        let from = self.marks.places[at] as usize;
         let to = self.next_place(at);
         let entry = records::entry_at(self.facts, self.kinds, self.changed, from, to);
-        store(entries.ids, n, self.ids[at]);
+        store(entries.ids, n, self.marks.ids[at]);
         store(entries.states, n, entry.state);
         store(entries.torn, n, entry.torn);
         n + 1
@@ -155,10 +143,10 @@ impl Counted<'_> {
     // Every mark in order, by its index: its record ends where the mark after it stands.
     fn fill(&self, entries: &mut LedgerMut<'_>) -> usize
         ensures same { SameLedger entries.old entries.new }
-        ensures left { filled result (entered_in entries.new) ≡ fill_from self.now.facts self.now.kinds.now self.now.changed.now self.now.codes.now self.now.ids.now self.now.places.now (filled 0 (entered_in entries.old)) }
+        ensures left { filled result (entered_in entries.new) ≡ fill_from self.now.facts self.now.kinds.now self.now.changed.now self.now.marks.codes.now self.now.marks.ids.now self.now.marks.places.now (filled 0 (entered_in entries.old)) }
     {
         let mut n = 0;
-        for at in 0..self.codes.len() {
+        for at in 0..self.marks.codes.len() {
             n = self.enter(at, n, entries);
         }
         n
@@ -168,7 +156,7 @@ impl Counted<'_> {
     fn derive(&self, entries: &mut LedgerMut<'_>) -> Result<usize, Refusal>
         requires { entries_uneven_in (entered_in entries.old) ≡ false }
         ensures same { SameLedger entries.old entries.new }
-        ensures left { ledgered (numbered number_of result) (entered_in entries.new) ≡ derived_by self.now.facts self.now.kinds.now self.now.changed.now self.now.codes.now self.now.ids.now self.now.places.now (entered_in entries.old) }
+        ensures left { ledgered (numbered number_of result) (entered_in entries.new) ≡ derived_by self.now.facts self.now.kinds.now self.now.changed.now self.now.marks.codes.now self.now.marks.ids.now self.now.marks.places.now (entered_in entries.old) }
     {
         let short = entries.ids.len() < self.begins();
         if short {
@@ -191,10 +179,9 @@ pub fn ledger(
     ensures same { SameLedger entries.old entries.new }
     ensures left { ledgered (numbered number_of result) (entered_in entries.new) ≡ ledger_call told counters media.now copy.now (log_seen log.now) (marks_seen marks.now) (entered_in entries.old) }
 {
-    let uneven = entries_uneven(entries);
+    let uneven = entries.uneven();
     refusal(told, counters, media, copy, log, marks, uneven)?;
     let operations = counters.operations;
-    let count = counters.marks;
     let kinds = &log.kinds[..operations];
     let facts = Facts {
         armed: told.armed,
@@ -205,9 +192,11 @@ pub fn ledger(
         facts,
         kinds,
         changed: &log.changed[..operations],
-        codes: &marks.codes[..count],
-        ids: &marks.ids[..count],
-        places: &marks.places[..count],
+        marks: MarksRef {
+            codes: &marks.codes[..counters.marks],
+            ids: &marks.ids[..counters.marks],
+            places: &marks.places[..counters.marks],
+        },
     };
     counted.derive(entries)
 }

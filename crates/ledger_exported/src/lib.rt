@@ -52,6 +52,7 @@ pub extern "C" fn ledger_of_run(
         places,
     };
     let mut columns = LedgerMut { ids, states, torn };
+    // C has no `Result`: the number crosses as the answer, and the count in a place that a refusal leaves as it was.
     match ledger::ledger(given, counters, media, copy, &log, &marks, &mut columns) {
         Ok(n) => {
             *entries = n as u64;

@@ -4,6 +4,7 @@
 
 use printing::ENOUGH;
 
+// (As `judge` and `sweep`, for both at once.)
 fn main(rt: HostRuntime) {
     let mut text = [0u8; ENOUGH];
     let mut input = rt.stdin();

@@ -1,7 +1,7 @@
-// The text of the two programs, a line at a time, written into a buffer that the caller lends (document 01, "Scripts and the
-// two programs"): fields parted by tabs, an LF at the end. A line is measured before it is written, so that one which does not
-// fit from the place where it should start is refused with 13 and changes nothing. A run's line of `sweep` is in `sweep_lines`.
-// Each promise is an equation with a definition of specs/.
+// The text of the two programs, a line at a time, written at a lent `Cursor`, which is a buffer and a place in it (document 01,
+// "Scripts and the two programs"): fields parted by tabs, an LF at the end. A line is measured before it is written, so that one
+// which does not fit from the place where it should start is refused with 13 and changes nothing. A run's line of `sweep` is in
+// `sweep_lines`. What a line is and where it goes is an equation with a definition of specs/.
 #![tactic(auto)]
 
 ghost use Rattle.std.specs.Prelude.{◌≡◌, ◌+◌, length, leb, IsErr};
@@ -28,7 +28,8 @@ fn put_ids(ids: &[u32], to: &mut Cursor<'_>)
     }
 }
 
-// Whether a line of `size` bytes and the ids' fields fits. What is left of the room is carried, so that no sum can wrap.
+// Whether a line of `size` bytes and the ids' fields fits from a place on in so much room, told by numbers, since it asks for no byte of the
+// buffer. What is left of the room is carried, so that no sum can wrap.
 fn ids_fit(ids: &[u32], size: usize, at: usize, room: usize) -> bool
     ensures { result ≡ leb (at + size + length (flatten (tabbed (map decimal_of ids.now)))) room }
 {
@@ -63,7 +64,8 @@ pub fn runs_line(count: u64, to: &mut Cursor<'_>) -> Result<(), Refusal>
     Ok(())
 }
 
-// `refused`, the number that refuses a script, and the line.
+// `refused`, the number that refuses a script, and the line. (Any number is taken: a `Refusal` or a `ScriptError` has fewer, and would
+// ask more of callers.)
 pub fn refused_line(number: u32, line: u32, to: &mut Cursor<'_>) -> Result<(), Refusal>
     ensures same { SameOut to.old to.new }
     ensures put { written result to.new ≡ put 0 (refused_text number line) to.old.at to.old.out.now }
@@ -81,7 +83,8 @@ pub fn refused_line(number: u32, line: u32, to: &mut Cursor<'_>) -> Result<(), R
     Ok(())
 }
 
-// A run's line of `judge`: its verdict's number, and the suggested history that the verdict is on.
+// A run's line of `judge`: its verdict's number, and the suggested history that the verdict is on. (Any number is taken, as above: a
+// verdict has fewer.)
 pub fn judge_line(
     place: u64,
     verdict: u32,

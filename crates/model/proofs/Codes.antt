@@ -4,7 +4,7 @@
 --     refused_none              what is known of columns that are not
 -- Assumes nothing.
 use mathlib.Core.Path.{◌≡◌, refl, sym, ap, ◌∙◌}
-use mathlib.Core.Bool.{Bool, true, false, ◌&&◌, and-true, and_assoc}
+use mathlib.Core.Bool.{Bool, true, false, not, ◌&&◌, ◌||◌, and-true, and_assoc}
 use mathlib.Core.List.{List, [], ◌∷◌}
 use Prim.Native.Nat.{ℕ, ◌+◌, ◌≤◌, ◌<◌}
 use lib.ListN.{length, get_or, drop}
@@ -13,7 +13,7 @@ use borrow.Author.Tests.{eqb-true}
 use Rattle.basics.specs.Tests.{unless, first_of}
 use Rattle.basics.proofs.Scans.{at-step, at-end}
 use Rattle.basics.proofs.Tests.{unless-zero, first_of-zero}
-use Rattle.model.specs.Columns.{all_up_to, refused}
+use Rattle.model.specs.Columns.{all_up_to, uneven, refused}
 
 module _ (top : ℕ) (s : List ℕ) (f : Bool) where
   pub codes_next : (i : ℕ) → all_up_to top s ≡ (f && all_up_to top (drop i s)) → i < length s
@@ -35,17 +35,26 @@ tests true true false d = refl
 tests true true true false = refl
 tests true true true true = refl
 
--- what the code says of the columns: r and t are what it says of their codes
-module _ (is ss ts : List ℕ) (r t : Bool) (e : r ≡ all_up_to 2 ss) (g : t ≡ all_up_to 1 ts) where
-  told : refused is ss ts ≡ unless (((eqb (length ss) (length is) && eqb (length ts) (length is)) && r) && t) 12
-  unfolding refused
-  told = tests _ _ _ _ ∙ (λ i. unless (((eqb (length ss) (length is) && eqb (length ts) (length is)) && sym e i) && sym g i) 12)
+-- not unequal is equal
+even : (a b : Bool) → not (not a || not b) ≡ (a && b)
+even true true = refl
+even true false = refl
+even false b = refl
 
-  pub a-ledger : (((eqb (length ss) (length is) && eqb (length ts) (length is)) && r) && t) ≡ true → 0 ≡ refused is ss ts
+-- what the code says of the columns: u is what it says of their lengths, r and t of their codes
+module _ (is ss ts : List ℕ) (u r t : Bool) (d : u ≡ uneven (length is) (length ss) (length ts)) (e : r ≡ all_up_to 2 ss) (g : t ≡ all_up_to 1 ts) where
+  equal : (eqb (length ss) (length is) && eqb (length ts) (length is)) ≡ not u
+  equal = sym (ap not d ∙ even _ _)
+
+  told : refused is ss ts ≡ unless ((not u && r) && t) 12
+  unfolding refused
+  told = tests _ _ _ _ ∙ (λ i. unless ((equal i && sym e i) && sym g i) 12)
+
+  pub a-ledger : ((not u && r) && t) ≡ true → 0 ≡ refused is ss ts
   unfolding unless
   a-ledger h = sym (told ∙ ap (λ (b : Bool). unless b 12) h)
 
-  pub no-ledger : (((eqb (length ss) (length is) && eqb (length ts) (length is)) && r) && t) ≡ false → 12 ≡ refused is ss ts
+  pub no-ledger : ((not u && r) && t) ≡ false → 12 ≡ refused is ss ts
   unfolding unless
   no-ledger h = sym (told ∙ ap (λ (b : Bool). unless b 12) h)
 

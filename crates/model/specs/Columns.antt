@@ -1,5 +1,5 @@
 -- The ledger that three lent columns hold, and the columns that hold none. Assumes nothing.
-use Rattle.std.specs.Prelude.{Bool, true, cond, ◌&&◌, List, [], ◌∷◌, ℕ, length, eqb, leb}
+use Rattle.std.specs.Prelude.{Bool, true, not, cond, ◌&&◌, ◌||◌, List, [], ◌∷◌, ℕ, length, eqb, leb}
 use Rattle.basics.specs.Tests.{unless, first_of}
 use Rattle.model.specs.Ledger.{Entry}
 use Rattle.model.specs.declared.Durability.{Durability}
@@ -24,6 +24,10 @@ ledger_of (i ∷ is) (s ∷ ss) (t ∷ ts) = entry_of i s t ∷ ledger_of is ss 
 unfoldable pub all_up_to : ℕ → List ℕ → Bool
 all_up_to top [] = true
 all_up_to top (code ∷ codes) = leb code top && all_up_to top codes
+
+-- "columns of one list unequal", over their lengths
+abbrev pub uneven : (ids states torn : ℕ) → Bool
+uneven is ss ts = not (eqb ss is) || not (eqb ts is)
 
 -- "12: columns of one list unequal (ledger ..), or .. a state above 2 or a torn .. code without a meaning"; 0 for columns
 -- that hold a ledger

@@ -1,5 +1,4 @@
--- The ids that a loop over two of the columns picks. Only private contracts cite it, in `ids_by_state` and `oracle`. Assumes
--- nothing.
+-- The ids that a loop over two of the columns picks. Only private contracts of `oracle` cite it. Assumes nothing.
 use Rattle.std.specs.Prelude.{cond, List, [], ◌∷◌, ℕ, leb}
 
 -- the ids whose state's code is at least so much: 1 for the committed ones, 2 for the acknowledged ones

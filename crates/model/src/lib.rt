@@ -4,10 +4,10 @@
 // and the committed and the acknowledged ids are in `ids_by_state`. Each promise is an equation with a definition of specs/.
 #![tactic(auto)]
 
-ghost use Rattle.std.specs.Prelude.{◌≡◌};
+ghost use Rattle.std.specs.Prelude.{◌≡◌, length};
 ghost use Rattle.basics.specs.Replies.{number_in, numbered};
 ghost use Rattle.refusals.specs.Numbers.{number_of};
-ghost use Rattle.model.specs.Columns.{all_up_to, refused};
+ghost use Rattle.model.specs.Columns.{state_of, all_up_to, uneven, refused};
 ghost use Rattle.model.specs.Answers.{len_asked};
 
 use refusals::Refusal;
@@ -21,6 +21,20 @@ pub enum Durability {
     PossiblyDurable,
     // A barrier returned after every one of its writes. Recovery must produce it.
     Acknowledged,
+}
+
+// The state that a code of the column stands for. (Not a TryFrom: `refusal` tells a code without a meaning before, and here it is
+// `Acknowledged`.)
+impl From<u8> for Durability {
+    ghost from_gives = { λ code state. state ≡ state_of code };
+
+    fn from(code: u8) -> Durability {
+        match code {
+            0 => Durability::Attempted,
+            1 => Durability::PossiblyDurable,
+            _ => Durability::Acknowledged,
+        }
+    }
 }
 
 // A ledger's three columns, lent to be read.
@@ -51,12 +65,19 @@ pub fn all_up_to(codes: &[u8], top: u8) -> bool
 }
 
 impl LedgerRef<'_> {
+    // Whether the columns are unequal.
+    pub fn uneven(&self) -> bool
+        ensures { result ≡ uneven (length self.now.ids.now) (length self.now.states.now) (length self.now.torn.now) }
+    {
+        let rows = self.ids.len();
+        (self.states.len() != rows) | (self.torn.len() != rows)
+    }
+
     // 12 for three columns that hold no ledger: of unequal lengths, with a state above 2, or with a torn code above 1.
     pub fn refusal(&self) -> Result<(), Refusal>
         ensures { number_in number_of result ≡ refused self.now.ids.now self.now.states.now self.now.torn.now }
     {
-        let entries = self.ids.len();
-        let equal = (self.states.len() == entries) & (self.torn.len() == entries);
+        let equal = !self.uneven();
         if equal & all_up_to(self.states, 2) & all_up_to(self.torn, 1) {
             Ok(())
         } else {
@@ -70,5 +91,25 @@ impl LedgerRef<'_> {
     {
         self.refusal()?;
         Ok(self.ids.len())
+    }
+}
+
+impl LedgerMut<'_> {
+    // The columns to read. (As `session` has it of its columns: a trait for all would name a type of answer and a definition for each.)
+    pub fn seen(&self) -> LedgerRef<'_>
+        ensures { (result.ids.now ≡ self.now.ids.now) × (result.states.now ≡ self.now.states.now) × (result.torn.now ≡ self.now.torn.now) }
+    {
+        LedgerRef {
+            ids: self.ids,
+            states: self.states,
+            torn: self.torn,
+        }
+    }
+
+    // Whether the columns are unequal.
+    pub fn uneven(&self) -> bool
+        ensures { result ≡ uneven (length self.now.ids.now) (length self.now.states.now) (length self.now.torn.now) }
+    {
+        self.seen().uneven()
     }
 }

@@ -1,5 +1,5 @@
 -- What the private scans of `src/` ask and answer. No public contract cites these. Assumes nothing.
-use Rattle.std.specs.Prelude.{◌≡◌, Option, filter, List, length, ℕ, min}
+use Rattle.std.specs.Prelude.{Option, filter, List, ℕ, min}
 use Rattle.std.specs.List.{reduce}
 use Rattle.std.specs.Result.{is_err}
 use Rattle.model.specs.Ledger.{Entry}
@@ -10,10 +10,6 @@ use Rattle.oracle.specs.Verdict.{Verdict}
 -- the ledger that lent columns hold
 abbrev pub held_by : LedgerRef → List Entry
 held_by l = ledger_of l.ids.now l.states.now l.torn.now
-
--- the columns are of one length, as those that hold a ledger are
-abbrev pub OneLength : LedgerRef → Type 0
-OneLength l = (length l.states.now ≡ length l.ids.now) × (length l.torn.now ≡ length l.ids.now)
 
 -- the least id of a list at which a test does not accept
 unfoldable pub least_faulty : (ℕ → Verdict) → List ℕ → Option ℕ

@@ -1,15 +1,15 @@
 // Whether a recovery is legal, after oracle.rs: the verdict on a ledger, a recovered history, the dispatched intents and a
 // bank count. The ledger is three lent columns, as in `model`. One verdict for every input, the first breach in the order of
 // the tests, with its values: each promise is an equation with a definition of specs/. What it means to be accepted is a
-// theorem (`oracle_legal`). No set is at hand, so ids are sought by scans of the lent lists.
+// theorem (`oracle_legal`). There is no heap and so no set: ids are sought by scans of the lent
+// lists.
 #![tactic(auto)]
 
 ghost use Rattle.std.specs.Prelude.{◌≡◌, [], None, length};
-ghost use Rattle.model.specs.Columns.{ledger_of};
 ghost use Rattle.model.specs.Scans.{ids_from};
 ghost use Rattle.oracle.specs.Verdict.{number_of, seen_before, fault_of, first_fault, differs, first_lost, banks_breach, verdict, verified};
 ghost use Rattle.oracle.specs.Nonzero.{breach-nonzero};
-ghost use Rattle.oracle.specs.Scans.{OneLength, held_by, least_faulty};
+ghost use Rattle.oracle.specs.Scans.{held_by, least_faulty};
 
 use basics::Numbered;
 use model::{Durability, LedgerRef};
@@ -41,8 +41,15 @@ pub enum Breach {
     Refused,
 }
 
-// Ok where the recovery is a legal one.
+// Ok where the recovery is a legal one. (No `From<Refusal>` of the error: of all refusals only that of columns is a breach.)
 pub type Verdict = Result<(), Breach>;
+
+// Columns that hold a ledger: nothing refuses them, so they are of one length.
+#[derive(Clone, Copy)]
+struct Entries<'a> {
+    columns: LedgerRef<'a>,
+    ghost even: { (length columns.states.now ≡ length columns.ids.now) × (length columns.torn.now ≡ length columns.ids.now) },
+}
 
 impl Numbered for Breach {
     ghost number = { number_of };
@@ -75,46 +82,6 @@ fn first_repeat(ids: &[u32]) -> Verdict
         }
     }
     Ok(())
-}
-
-// 33 if the id's first entry is attempted, else 34 if it is torn.
-fn fault_of(ledger: &LedgerRef<'_>, id: u32) -> Verdict
-    requires { OneLength ledger.now }
-    ensures { result ≡ fault_of (held_by ledger.now) id }
-{
-    let Some(row) = id_columns::first_place(ledger.ids, id) else {
-        return Ok(());
-    };
-    if ledger.states[row] == Durability::Attempted as u8 {
-        return Err(Breach::RecoveredWhatWasNeverAttempted(id));
-    }
-    if ledger.torn[row] == 1 {
-        return Err(Breach::RecoveredATornRecord(id));
-    }
-    Ok(())
-}
-
-// The least recovered id with a fault: the one that is met first by rising value.
-fn least_faulty(ledger: &LedgerRef<'_>, history: &[u32]) -> Option<u32>
-    requires { OneLength ledger.now }
-    ensures { result ≡ least_faulty (fault_of (held_by ledger.now)) history.now }
-{
-    history
-        .iter()
-        .copied()
-        .filter(|id| fault_of(ledger, *id).is_err())
-        .min()
-}
-
-// 33 and 34, over recovered ids by rising value.
-fn first_fault(ledger: &LedgerRef<'_>, history: &[u32]) -> Verdict
-    requires { OneLength ledger.now }
-    ensures { result ≡ first_fault (held_by ledger.now) history.now }
-{
-    match least_faulty(ledger, history) {
-        None => Ok(()),
-        Some(id) => fault_of(ledger, id),
-    }
 }
 
 // 32: the first history position whose committed id differs or is missing.
@@ -176,24 +143,57 @@ fn bank_breach(banks: Option<u64>) -> Verdict
     }
 }
 
-// The verdict on columns that hold a ledger.
-fn judged(
-    ledger: &LedgerRef<'_>,
-    history: &[u32],
-    dispatched: &[u32],
-    banks: Option<u64>,
-) -> Verdict
-    requires { OneLength ledger.now }
-    ensures { result ≡ verdict (held_by ledger.now) history.now dispatched.now banks }
-{
-    first_repeat(ledger.ids)?;
-    // Before the prefix, because "recovery produced a record that never reached media" is a diagnosis and "position 1
-    // disagrees" is a symptom of it.
-    first_fault(ledger, history)?;
-    first_difference(ledger, history)?;
-    first_lost(ledger, history)?;
-    first_unaccounted(dispatched, history)?;
-    bank_breach(banks)
+impl Entries<'_> {
+    // 33 if the id's first entry is attempted, else 34 if it is torn.
+    fn fault_of(&self, id: u32) -> Verdict
+        ensures { result ≡ fault_of (held_by self.now.columns) id }
+    {
+        let Some(row) = id_columns::first_place(self.columns.ids, id) else {
+            return Ok(());
+        };
+        if self.columns.states[row] == Durability::Attempted as u8 {
+            return Err(Breach::RecoveredWhatWasNeverAttempted(id));
+        }
+        if self.columns.torn[row] == 1 {
+            return Err(Breach::RecoveredATornRecord(id));
+        }
+        Ok(())
+    }
+
+    // The least recovered id with a fault: the one that is met first by rising value.
+    fn least_faulty(&self, history: &[u32]) -> Option<u32>
+        ensures { result ≡ least_faulty (fault_of (held_by self.now.columns)) history.now }
+    {
+        history
+            .iter()
+            .copied()
+            .filter(|id| self.fault_of(*id).is_err())
+            .min()
+    }
+
+    // 33 and 34, over recovered ids by rising value.
+    fn first_fault(&self, history: &[u32]) -> Verdict
+        ensures { result ≡ first_fault (held_by self.now.columns) history.now }
+    {
+        match self.least_faulty(history) {
+            None => Ok(()),
+            Some(id) => self.fault_of(id),
+        }
+    }
+
+    // The verdict on the ledger.
+    fn judged(&self, history: &[u32], dispatched: &[u32], banks: Option<u64>) -> Verdict
+        ensures { result ≡ verdict (held_by self.now.columns) history.now dispatched.now banks }
+    {
+        first_repeat(self.columns.ids)?;
+        // Before the prefix, because "recovery produced a record that never reached media" is a diagnosis and "position 1
+        // disagrees" is a symptom of it.
+        self.first_fault(history)?;
+        first_difference(&self.columns, history)?;
+        first_lost(&self.columns, history)?;
+        first_unaccounted(dispatched, history)?;
+        bank_breach(banks)
+    }
 }
 
 // Whether a recovery is a legal one of the run that the ledger describes: the first breach in document 01's order, with its
@@ -206,10 +206,9 @@ pub fn verify_oracle(
 ) -> Verdict
     ensures { result ≡ verified ledger.now.ids.now ledger.now.states.now ledger.now.torn.now history.now dispatched.now banks }
 {
-    if ledger.refusal().is_err() {
-        return Err(Breach::Refused);
-    }
-    judged(ledger, history, dispatched, banks)
+    ledger.refusal().map_err(|_| Breach::Refused)?;
+    let entries = Entries { columns: *ledger };
+    entries.judged(history, dispatched, banks)
 }
 
 // The same for a recovery that claims nothing about banks or dispatched effects.

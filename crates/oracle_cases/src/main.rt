@@ -17,7 +17,7 @@ const RECORDS: [u32; 3] = [5, 6, 9];
 
 const COUNTS: [Option<u64>; 5] = [None, Some(0), Some(1), Some(2), Some(18446744073709551615)];
 
-// A list of up to two numbers.
+// A list of up to two numbers: no heap, so a count beside them.
 #[derive(Clone, Copy)]
 struct Pair {
     many: usize,
@@ -51,7 +51,7 @@ fn list_at(place: usize, top: usize) -> Pair
     }
 }
 
-// A ledger of up to two entries, in columns of its own.
+// A ledger of up to two entries, in columns of its own, with a count beside them as above.
 #[derive(Clone, Copy)]
 struct Ledger {
     many: usize,
@@ -204,6 +204,7 @@ fn example(rt: &impl Print) -> io::Result<()> {
     verdict_line(rt, &ledger, &[], &[], Some(0))
 }
 
+// (The cut is made where it is lent, here and below: a method for it would require the count's bound again.)
 fn ledger_case(rt: &impl Print, place: usize) -> io::Result<()>
     requires { place < 157 }
 {

@@ -1,7 +1,7 @@
 // The layers `model`, `first_entries`, `ids_by_state` and `oracle` for callers in Rust or C, which tests/differential holds
 // against the original Rust: numbers and lent slices in, a lent reply filled with numbers. Each function makes one call and
 // tells its answer whole: document 01's number, 0 where nothing is refused, then for each of its values whether there is one
-// and the value. A slice crosses as a pointer, then a length; an array as a pointer.
+// and the value. A slice crosses as a pointer, then a length, so the ledger's columns cross one by one; an array as a pointer.
 #![tactic(auto)]
 
 ghost use Rattle.std.specs.Prelude.{◌≡◌, [], None};

@@ -1,7 +1,9 @@
 // What the lines of the two programs are written with: bytes, numbers, words, and fields behind a tab, each written into a
 // buffer that the caller lends. A piece is written where there is room for it, and the cursor goes past it; where there is none
 // nothing changes and the cursor stays. So the promises compose with no word of the room, and whether a line fits is asked
-// before (`fits`). Each promise is an equation with a definition of specs/, and says that the buffer is still the same one.
+// before (`fits`). Each promise is an equation with a definition of specs/, and says that the buffer is still the same one (`same`: it is of two
+// states, which no invariant says, and behind an `impl Model` the link to the caller's buffer is lost; so it is of every struct that
+// lends something to be written).
 #![tactic(auto)]
 
 ghost use Rattle.std.specs.Prelude.{◌≡◌, [], ◌∷◌, ◌+◌, leb};

@@ -8,10 +8,9 @@
 -- Assumes nothing.
 use mathlib.Core.Path.{◌≡◌, refl, sym, ap, ◌∙◌, subst}
 use mathlib.Core.Bool.{Bool, true, false, cond}
-use mathlib.Core.List.{List, [], ◌∷◌, ◌++◌, flatten}
+use mathlib.Core.List.{List, [], ◌∷◌, ◌++◌, flatten, append_assoc}
 use Prim.Native.Nat.{ℕ, suc, ◌+◌, ◌-◌, ◌≤◌, ◌<◌, zero-le}
 use native.Mathlib.Omega.{arith}
-use mathlib.Core.List.{append_assoc}
 use lib.ListN.{length, take, drop, length-append, length-drop, take-append-drop}
 use lib.Seq.{drop-drop, take_all, take-length, take_at, take-add, take-append-le, take-append-add}
 use lib.Dec.{leb}
@@ -20,15 +19,13 @@ use Rattle.pieces.proofs.Lists.{flatten-append}
 use Rattle.lines.specs.Lines.{Shown}
 use Rattle.sweeps.specs.Sweep.{Swept, runs, not_swept, swept_of, sweep_output, judge_output}
 use Rattle.text_of_runs.specs.Printout.{lines_by, sweep_lines, judge_lines}
-use Rattle.text_parts.specs.Parts.{Part}
-use Rattle.text_parts.specs.Parts.{Lines, NoRoom}
-use Rattle.text_parts.specs.Parts.{fitting, PartLeft, part_left, part_of, Parts}
+use Rattle.text_parts.specs.Parts.{Part, Lines, NoRoom, lines_for, fitting, PartLeft, part_left, part_of, Parts}
 use Rattle.text_parts.proofs.Whole.{all-parts}
 use Rattle.std.specs.declared.option.Option.{Option}
 use Rattle.std.specs.Io.KnownBytes.{Appends}
 use Rattle.std.proofs.KnownBytes.{Appends-nil, Appends-trans}
 use Rattle.printing.specs.declared.Printed.{Printed}
-use Rattle.printing.specs.Output.{printed_of, lines_for, FrontOf, Written}
+use Rattle.printing.specs.Output.{printed_of, FrontOf, Written}
 
 abbrev output_for : (judged : Bool) → (text : List ℕ) → List ℕ
 output_for true text = judge_output text

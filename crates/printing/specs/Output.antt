@@ -1,19 +1,13 @@
--- What is told of a text that is printed line by line, and which lines a program has. Definitions only; assumes nothing.
-use Rattle.std.specs.Prelude.{◌≡◌, ◌≤◌, Bool, true, false, ℕ, length, take, eqb, Option}
+-- What is told of a text that is printed line by line, and what a writer took of it. Definitions only; assumes nothing.
+use Rattle.std.specs.Prelude.{◌≡◌, ◌≤◌, Bool, true, ℕ, length, take, eqb, Option}
 use mathlib.Core.List.{List, flatten}
 use Rattle.std.specs.Io.KnownBytes.{Appends}
-use Rattle.text_of_runs.specs.Printout.{sweep_lines, judge_lines}
 use Rattle.printing.specs.declared.Printed.{Printed}
 
 -- Of the lines `ls`, the first `lines` were taken: how many bytes they have, and whether they are all. Which write is the first that is
 -- not taken nobody knows but the system, so that the count of lines is the answer that is left free.
 abbrev pub printed_of : (ls : List (List ℕ)) → (lines : ℕ) → Printed
 printed_of ls lines = record { lines = lines; bytes = length (flatten (take lines ls)); taken = eqb lines (length ls) }
-
--- One program or the other; private contracts alone cite it.
-abbrev pub lines_for : (judged : Bool) → (text : List ℕ) → List (List ℕ)
-lines_for true text = judge_lines text
-lines_for false text = sweep_lines text
 
 -- A writer took the front of `bytes`, and all of them where that is `told`; private contracts alone cite it.
 abbrev pub FrontOf : (old new : Option (List ℕ)) → (bytes : List ℕ) → (told : Bool) → Type 0

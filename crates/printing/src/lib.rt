@@ -8,15 +8,14 @@
 ghost use Rattle.std.specs.Prelude.{◌≡◌, ◌≢◌, true, ◌≤◌, length, take, drop, IfOk};
 ghost use Rattle.std.specs.Io.KnownBytes.{Consumes, IsAtEnd, ReadConsumes, WriteAppends};
 ghost use Rattle.text_of_runs.specs.Printout.{sweep_lines, judge_lines};
-ghost use Rattle.text_parts.specs.Parts.{part_as, part_left, part_of};
-ghost use Rattle.printing.specs.Output.{printed_of, lines_for, FrontOf, Written};
+ghost use Rattle.text_parts.specs.Parts.{lines_for};
+ghost use Rattle.printing.specs.Output.{printed_of, FrontOf, Written};
 
-use refusals::Refusal;
-use std::io;
-use std::io::{ErrorKind, Read, Write};
+use run_lines::{Judged, Program, Swept};
+use std::io::{self, ErrorKind, Read, Write};
 use text_parts::Part;
 
-// One byte more than the longest script has: enough to know that a text is too long.
+// One byte more than the longest script (`script` `MOST_TEXT`) has: enough to know that a text is too long.
 pub const ENOUGH: usize = 65537;
 
 // How many lines standard output took, how many bytes these have, and whether they are the whole text.
@@ -27,7 +26,7 @@ pub struct Printed {
     pub taken: bool,
 }
 
-// One read, made again where a signal interrupts it.
+// One read, made again where a signal interrupts it. (So often that nobody sees the end: a loop without one has no proof that it ends.)
 fn read_some<R: Read>(input: &mut R, buf: &mut [u8]) -> io::Result<usize>
     ensures within { IfOk result (λ n. n ≤ length buf.new) }
     ensures bytes { ReadConsumes (R.remaining input.old) (R.remaining input.new) result buf.new }
@@ -79,16 +78,6 @@ pub fn input_ended<R: Read>(rt: &impl Eprint, input: &mut R, taken: usize) -> bo
     false
 }
 
-// The part of a program's text from a line on.
-fn part_of(judged: bool, text: &[u8], from: u64, out: &mut [u8]) -> Result<Part, Refusal>
-    ensures { part_left (part_as result) out.new ≡ part_of (drop from (lines_for judged text.now)) out.old }
-{
-    if judged {
-        return text_parts::judge_part(text, from, out);
-    }
-    text_parts::sweep_part(text, from, out)
-}
-
 // One write, made again where a signal interrupts it. (As `read_some`: one function for both would need a trait of its own, and two
 // promises in it.)
 fn write_some<W: Write>(to: &mut W, bytes: &[u8]) -> io::Result<usize>
@@ -127,16 +116,16 @@ fn hand_over<W: Write>(rt: &impl Eprint, to: &mut W, bytes: &[u8]) -> bool
     true
 }
 
-// Prints a program's text up to the first part that is not taken: no run is made for nobody.
-fn print<W: Write>(rt: &impl Eprint, to: &mut W, judged: bool, text: &[u8]) -> Printed
-    ensures told { (result.lines ≤ length (lines_for judged text.now)) × (result ≡ printed_of (lines_for judged text.now) result.lines) }
-    ensures written { Written (lines_for judged text.now) result (W.contents to.old) (W.contents to.new) }
+// Prints one program's text for a script up to the first part that is not taken: no run is made for nobody.
+pub fn print<P: Program, W: Write>(rt: &impl Eprint, to: &mut W, text: &[u8]) -> Printed
+    ensures told { (result.lines ≤ length (lines_for P.judged text.now)) × (result ≡ printed_of (lines_for P.judged text.now) result.lines) }
+    ensures written { Written (lines_for P.judged text.now) result (W.contents to.old) (W.contents to.new) }
 {
     let mut out = [0u8; 262144];
     let mut from: u64 = 0;
     let mut printed: u64 = 0;
     loop {
-        let Ok(Part { lines, bytes, left }) = part_of(judged, text, from, &mut out) else {
+        let Ok(Part { lines, bytes, left }) = text_parts::part_of::<P>(text, from, &mut out) else {
             // Never taken: there is room for every line.
             return Printed {
                 lines: 0,
@@ -170,7 +159,7 @@ pub fn print_sweep<W: Write>(rt: &impl Eprint, to: &mut W, text: &[u8]) -> Print
     ensures told { (result.lines ≤ length (sweep_lines text.now)) × (result ≡ printed_of (sweep_lines text.now) result.lines) }
     ensures written { Written (sweep_lines text.now) result (W.contents to.old) (W.contents to.new) }
 {
-    print(rt, to, false, text)
+    print::<Swept, W>(rt, to, text)
 }
 
 // Prints every run of a script with the verdict on its suggested history, or what refuses it.
@@ -178,5 +167,5 @@ pub fn print_judge<W: Write>(rt: &impl Eprint, to: &mut W, text: &[u8]) -> Print
     ensures told { (result.lines ≤ length (judge_lines text.now)) × (result ≡ printed_of (judge_lines text.now) result.lines) }
     ensures written { Written (judge_lines text.now) result (W.contents to.old) (W.contents to.new) }
 {
-    print(rt, to, true, text)
+    print::<Judged, W>(rt, to, text)
 }

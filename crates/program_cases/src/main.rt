@@ -4,6 +4,7 @@
 //     (tests/differential/run sample sweep; tests/differential/run sample judge) > crates/program_cases/stdout
 #![tactic(auto)]
 
+use run_lines::{Judged, Program, Swept};
 use std::io;
 
 // A byte of a text; a tab, an LF and a CR as they are written in a program.
@@ -33,31 +34,25 @@ fn show(rt: &impl Print, text: &[u8]) -> io::Result<()> {
     rt.write_all(b"\n")
 }
 
-// A script, and what `judge` or `sweep` prints for it.
-fn script_case(rt: &(impl Print + Eprint), judged: bool, text: &[u8]) -> io::Result<()> {
+// A script, and what one of the programs prints for it.
+fn script_case<P: Program>(rt: &(impl Print + Eprint), text: &[u8]) -> io::Result<()> {
     show(rt, text)?;
-    let mut output = io::writer(rt);
-    if judged {
-        printing::print_judge(rt, &mut output, text);
-    } else {
-        printing::print_sweep(rt, &mut output, text);
-    }
+    printing::print::<P, _>(rt, &mut io::writer(rt), text);
     Ok(())
 }
 
-// Texts, parted by semicolons.
-fn text_cases(rt: &(impl Print + Eprint), judged: bool, texts: &[u8]) -> io::Result<()> {
+// Texts, parted by semicolons. (A function for each list below and no table: its name and its comment say what the list shows.)
+fn text_cases<P: Program>(rt: &(impl Print + Eprint), texts: &[u8]) -> io::Result<()> {
     for text in texts.split(|byte| *byte == b';') {
-        script_case(rt, judged, text)?;
+        script_case::<P>(rt, text)?;
     }
     Ok(())
 }
 
 // Document 01's worked example; under each pair of letters; without its end, barrier, begin or program; with a second record.
-fn worked_cases(rt: &(impl Print + Eprint), judged: bool) -> io::Result<()> {
-    text_cases(
+fn worked_cases<P: Program>(rt: &(impl Print + Eprint)) -> io::Result<()> {
+    text_cases::<P>(
         rt,
-        judged,
         b"G\t4\t4\t1\t1\ta\ts\nB\t7\nP\t0\t00\nS\nN\n;\
         G\t4\t4\t1\t1\ta\tc\nB\t7\nP\t0\t00\nS\nN\n;\
         G\t4\t4\t1\t1\tr\ts\nB\t7\nP\t0\t00\nS\nN\n;\
@@ -76,10 +71,9 @@ fn worked_cases(rt: &(impl Print + Eprint), judged: bool) -> io::Result<()> {
 }
 
 // No operation: no line after the first, on devices of every kind; marks alone, and ranges of operations that are none.
-fn empty_cases(rt: &(impl Print + Eprint), judged: bool) -> io::Result<()> {
-    text_cases(
+fn empty_cases<P: Program>(rt: &(impl Print + Eprint)) -> io::Result<()> {
+    text_cases::<P>(
         rt,
-        judged,
         b"G\t1\t1\t1\t1\ta\ts\n;\
         G\t1\t1\t1\t1\tr\tc\n;\
         G\t4\t4\t1\t1\ta\ts\n;\
@@ -104,10 +98,9 @@ fn empty_cases(rt: &(impl Print + Eprint), judged: bool) -> io::Result<()> {
 }
 
 // Programs: of nothing, of whole units and several, at each place; bytes that change no cell, and padding, which is not torn.
-fn unit_cases(rt: &(impl Print + Eprint), judged: bool) -> io::Result<()> {
-    text_cases(
+fn unit_cases<P: Program>(rt: &(impl Print + Eprint)) -> io::Result<()> {
+    text_cases::<P>(
         rt,
-        judged,
         b"G\t4\t4\t1\t1\ta\ts\nB\t1\nP\t0\t\nS\n;\
         G\t4\t4\t1\t1\ta\ts\nB\t1\nP\t4\t\nS\n;\
         G\t4\t4\t1\t1\ta\ts\nB\t1\nP\t3\t00\nS\n;\
@@ -135,10 +128,9 @@ fn unit_cases(rt: &(impl Print + Eprint), judged: bool) -> io::Result<()> {
 
 // Programs over the same cells: again, over one another, with and without a barrier between; bits set without an erase, and
 // after one.
-fn again_cases(rt: &(impl Print + Eprint), judged: bool) -> io::Result<()> {
-    text_cases(
+fn again_cases<P: Program>(rt: &(impl Print + Eprint)) -> io::Result<()> {
+    text_cases::<P>(
         rt,
-        judged,
         b"G\t4\t4\t1\t1\ta\ts\nB\t1\nP\t0\t00\nP\t0\t00\nS\n;\
         G\t4\t4\t1\t1\ta\tc\nB\t1\nP\t0\t00\nP\t0\t00\nS\n;\
         G\t4\t4\t1\t1\ta\tc\nB\t1\nP\t0\t0000\nP\t0\t0000\nS\n;\
@@ -161,10 +153,9 @@ fn again_cases(rt: &(impl Print + Eprint), judged: bool) -> io::Result<()> {
 }
 
 // Erases: of nothing, of erased blocks, of one and several, after a program; one that fails and is done again.
-fn erase_cases(rt: &(impl Print + Eprint), judged: bool) -> io::Result<()> {
-    text_cases(
+fn erase_cases<P: Program>(rt: &(impl Print + Eprint)) -> io::Result<()> {
+    text_cases::<P>(
         rt,
-        judged,
         b"G\t4\t4\t1\t1\ta\ts\nB\t1\nE\t0\t0\nS\n;\
         G\t4\t4\t1\t1\ta\ts\nB\t1\nE\t0\t4\nS\n;\
         G\t4\t2\t1\t1\ta\ts\nB\t1\nE\t2\t2\nS\n;\
@@ -186,10 +177,9 @@ fn erase_cases(rt: &(impl Print + Eprint), judged: bool) -> io::Result<()> {
 }
 
 // Barriers: alone, several, before and after; one that fails acknowledges nothing.
-fn barrier_cases(rt: &(impl Print + Eprint), judged: bool) -> io::Result<()> {
-    text_cases(
+fn barrier_cases<P: Program>(rt: &(impl Print + Eprint)) -> io::Result<()> {
+    text_cases::<P>(
         rt,
-        judged,
         b"G\t4\t4\t1\t1\ta\ts\nS\n;\
         G\t4\t4\t1\t1\ta\tc\nS\n;\
         G\t4\t4\t1\t1\tr\ts\nS\nS\nS\n;\
@@ -206,10 +196,9 @@ fn barrier_cases(rt: &(impl Print + Eprint), judged: bool) -> io::Result<()> {
 
 // Ranges: of operations recorded already, of later ones, backwards, over one another. A writer that stops meets 26 by the first
 // kind.
-fn range_cases(rt: &(impl Print + Eprint), judged: bool) -> io::Result<()> {
-    text_cases(
+fn range_cases<P: Program>(rt: &(impl Print + Eprint)) -> io::Result<()> {
+    text_cases::<P>(
         rt,
-        judged,
         b"G\t4\t4\t1\t1\ta\tc\nP\t0\t00\nS\nM\t1\t0\t1\n;\
         G\t4\t4\t1\t1\ta\tc\nP\t0\t00\nS\nM\t1\t0\t2\n;\
         G\t4\t4\t1\t1\ta\tc\nP\t0\t00\nS\nM\t1\t1\t2\n;\
@@ -246,10 +235,9 @@ fn range_cases(rt: &(impl Print + Eprint), judged: bool) -> io::Result<()> {
 }
 
 // Calls that the geometry refuses, 4 to 6, and 20: a writer that stops returns it (24), one that carries on leaves it out.
-fn refused_cases(rt: &(impl Print + Eprint), judged: bool) -> io::Result<()> {
-    text_cases(
+fn refused_cases<P: Program>(rt: &(impl Print + Eprint)) -> io::Result<()> {
+    text_cases::<P>(
         rt,
-        judged,
         b"G\t8\t4\t2\t1\ta\ts\nP\t1\t0000\n;\
         G\t8\t4\t2\t1\ta\tc\nP\t1\t0000\n;\
         G\t8\t4\t2\t1\ta\ts\nP\t0\t00\n;\
@@ -282,10 +270,9 @@ fn refused_cases(rt: &(impl Print + Eprint), judged: bool) -> io::Result<()> {
 }
 
 // Ids that come twice (31), and histories that skip a torn record (32).
-fn history_cases(rt: &(impl Print + Eprint), judged: bool) -> io::Result<()> {
-    text_cases(
+fn history_cases<P: Program>(rt: &(impl Print + Eprint)) -> io::Result<()> {
+    text_cases::<P>(
         rt,
-        judged,
         b"G\t4\t4\t1\t1\ta\tc\nB\t1\nP\t0\t00\nB\t1\nP\t1\t00\nS\n;\
         G\t4\t4\t1\t1\ta\ts\nB\t1\nP\t0\t0000\nB\t1\nP\t2\t00\nS\n;\
         G\t4\t4\t1\t1\ta\tc\nB\t1\nP\t0\t0000\nB\t1\nP\t2\t0000\nS\n;\
@@ -303,10 +290,9 @@ fn history_cases(rt: &(impl Print + Eprint), judged: bool) -> io::Result<()> {
 }
 
 // Line 1: absent, of another kind, of too few and too many fields, without its LF; letters and numbers that are none.
-fn head_cases(rt: &(impl Print + Eprint), judged: bool) -> io::Result<()> {
-    text_cases(
+fn head_cases<P: Program>(rt: &(impl Print + Eprint)) -> io::Result<()> {
+    text_cases::<P>(
         rt,
-        judged,
         b";\
         \n;\
         S\n;\
@@ -324,10 +310,9 @@ fn head_cases(rt: &(impl Print + Eprint), judged: bool) -> io::Result<()> {
 }
 
 // Line 1: what its units refuse, 1 to 3 and 10, after 8 and before a later line's 8.
-fn geometry_cases(rt: &(impl Print + Eprint), judged: bool) -> io::Result<()> {
-    text_cases(
+fn geometry_cases<P: Program>(rt: &(impl Print + Eprint)) -> io::Result<()> {
+    text_cases::<P>(
         rt,
-        judged,
         b"G\t0\t4\t1\t1\ta\ts\n;\
         G\t4\t0\t1\t1\ta\ts\n;\
         G\t4\t4\t0\t1\ta\ts\n;\
@@ -357,10 +342,9 @@ fn geometry_cases(rt: &(impl Print + Eprint), judged: bool) -> io::Result<()> {
 
 // Other lines that are none: a letter without a meaning, a second line 1, barriers and marks with fields too few and too many,
 // or numbers that are none.
-fn line_cases(rt: &(impl Print + Eprint), judged: bool) -> io::Result<()> {
-    text_cases(
+fn line_cases<P: Program>(rt: &(impl Print + Eprint)) -> io::Result<()> {
+    text_cases::<P>(
         rt,
-        judged,
         b"G\t4\t4\t1\t1\ta\ts\nX\n;\
         G\t4\t4\t1\t1\ta\ts\ns\n;\
         G\t4\t4\t1\t1\ta\ts\n\n;\
@@ -392,10 +376,9 @@ fn line_cases(rt: &(impl Print + Eprint), judged: bool) -> io::Result<()> {
 }
 
 // Erases and programs that are none; then a line that is none after a call that the geometry refuses, and after a whole script.
-fn field_cases(rt: &(impl Print + Eprint), judged: bool) -> io::Result<()> {
-    text_cases(
+fn field_cases<P: Program>(rt: &(impl Print + Eprint)) -> io::Result<()> {
+    text_cases::<P>(
         rt,
-        judged,
         b"G\t4\t4\t1\t1\ta\ts\nE\t1\n;\
         G\t4\t4\t1\t1\ta\ts\nE\t0\t4\t4\n;\
         G\t4\t4\t1\t1\ta\ts\nE\t0\t04\n;\
@@ -421,10 +404,9 @@ fn field_cases(rt: &(impl Print + Eprint), judged: bool) -> io::Result<()> {
 }
 
 // Drawn once by the layer's generator from what has few runs.
-fn drawn_cases(rt: &(impl Print + Eprint), judged: bool) -> io::Result<()> {
-    text_cases(
+fn drawn_cases<P: Program>(rt: &(impl Print + Eprint)) -> io::Result<()> {
+    text_cases::<P>(
         rt,
-        judged,
         b"G\t8\t4\t4\t2\tr\tc\nB\t1\nP\t0\t000000ff\nP\t0\t9cdc1971ffffffff\nP\t0\t6cdbd64e\nP\t4\tff000ff0\nB\t2\nS\nP\t4\t0ff0f0ff0fffffff\n;\
         G\t16\t8\t4\t1\tr\ts\nB\t2\nP\t0\t00000000\nP\t4\t0ffff0ff\nP\t4\t0ffff0ff\nS\n;\
         G\t4\t2\t2\t1\ta\tc\nP\t0\t0f0f\nE\t2\t2\nB\t4294967196\nS\nN\nP\t0\t0f0f\nE\t2\t0\nE\t0\t0\nB\t4294967197\nE\t0\t4\n;\
@@ -451,10 +433,9 @@ fn drawn_cases(rt: &(impl Print + Eprint), judged: bool) -> io::Result<()> {
 }
 
 // The second half of those drawn.
-fn more_drawn_cases(rt: &(impl Print + Eprint), judged: bool) -> io::Result<()> {
-    text_cases(
+fn more_drawn_cases<P: Program>(rt: &(impl Print + Eprint)) -> io::Result<()> {
+    text_cases::<P>(
         rt,
-        judged,
         b"G\t20\t4\t2\t1\ta\ts\nE\t0\t16\nE\t4\t12\nB\t1\nE\t16\t0\nP\t12\t62ff\n;\
         G\t2\t2\t2\t2\ta\tc\nB\t4294967196\nM\t4294967197\t0\t0\nP\t0\t23ff\nM\t4294967198\t1\t2\nP\t0\t\nS\nS\nB\t4294967199\nE\t0\t2\nB\t4294967200\nM\t2\t0\t6\nN\nP\t0\t07af\nP\t0\t07af\nM\t4294967202\t8\t8\nB\t4294967203\n;\
         G\t1\t1\t1\t1\ta\tc\nE\t0\t1\nP\t0\t00\nE\t0\t0\nP\t0\t00\nS\nB\t4294967196\nM\t4294967197\t2\t6\nS\nP\t0\t8b\nP\t0\t00\n;\
@@ -480,72 +461,55 @@ fn more_drawn_cases(rt: &(impl Print + Eprint), judged: bool) -> io::Result<()> 
     )
 }
 
-// Puts a text over the front of another.
-fn put(text: &mut [u8], front: &[u8]) {
-    for (cell, byte) in text.iter_mut().zip(front) {
-        *cell = *byte;
-    }
-}
-
-// The byte at a place among lines of one letter.
-fn letter_at(letter: u8, i: usize) -> u8 {
-    if i % 2 == 0 { letter } else { b'\n' }
-}
-
-// Fills a text with lines of one letter.
-fn fill(text: &mut [u8], letter: u8) {
-    for (i, cell) in text.iter_mut().enumerate() {
-        *cell = letter_at(letter, i);
-    }
-}
-
-// A line 1 of 14 bytes, so that each line after it starts at an even place, and lines of one letter up to the text's end.
-fn letter_case(
+// A line 1 of 14 bytes, and lines of one letter behind it up to the text's end.
+fn letter_case<P: Program>(
     rt: &(impl Print + Eprint),
-    judged: bool,
     text: &mut [u8],
-    front: &[u8],
+    front: &[u8; 14],
     letter: u8,
 ) -> io::Result<()> {
-    fill(text, letter);
-    put(text, front);
-    script_case(rt, judged, text)
+    let (lines, _) = text.as_chunks_mut::<2>();
+    lines.fill([letter, b'\n']);
+    if let Some(start) = text.first_chunk_mut::<14>() {
+        *start = *front;
+    }
+    script_case::<P>(rt, text)
 }
 
 // Scripts of 65,536 and 65,537 bytes; 512 marks, and 513, at which a writer stops or carries on; 1,025 operations.
-fn long_cases(rt: &(impl Print + Eprint), judged: bool) -> io::Result<()> {
-    script_case(rt, judged, &[b'\n'; 65536])?;
-    script_case(rt, judged, &[b'\n'; 65537])?;
+fn long_cases<P: Program>(rt: &(impl Print + Eprint)) -> io::Result<()> {
+    script_case::<P>(rt, &[b'\n'; 65536])?;
+    script_case::<P>(rt, &[b'\n'; 65537])?;
     let mut most = [0u8; 1038];
-    letter_case(rt, judged, &mut most, b"G\t4\t4\t1\t1\ta\ts\n", b'N')?;
+    letter_case::<P>(rt, &mut most, b"G\t4\t4\t1\t1\ta\ts\n", b'N')?;
     let mut more = [0u8; 1040];
-    letter_case(rt, judged, &mut more, b"G\t4\t4\t1\t1\ta\ts\n", b'N')?;
-    letter_case(rt, judged, &mut more, b"G\t4\t4\t1\t1\ta\tc\n", b'N')?;
+    letter_case::<P>(rt, &mut more, b"G\t4\t4\t1\t1\ta\ts\n", b'N')?;
+    letter_case::<P>(rt, &mut more, b"G\t4\t4\t1\t1\ta\tc\n", b'N')?;
     let mut operations = [0u8; 2064];
-    letter_case(rt, judged, &mut operations, b"G\t4\t4\t1\t1\ta\ts\n", b'S')
+    letter_case::<P>(rt, &mut operations, b"G\t4\t4\t1\t1\ta\ts\n", b'S')
 }
 
-// Every script, for `judge` or for `sweep`.
-fn all(rt: &(impl Print + Eprint), judged: bool) -> io::Result<()> {
-    worked_cases(rt, judged)?;
-    empty_cases(rt, judged)?;
-    unit_cases(rt, judged)?;
-    again_cases(rt, judged)?;
-    erase_cases(rt, judged)?;
-    barrier_cases(rt, judged)?;
-    range_cases(rt, judged)?;
-    refused_cases(rt, judged)?;
-    history_cases(rt, judged)?;
-    head_cases(rt, judged)?;
-    geometry_cases(rt, judged)?;
-    line_cases(rt, judged)?;
-    field_cases(rt, judged)?;
-    drawn_cases(rt, judged)?;
-    more_drawn_cases(rt, judged)?;
-    long_cases(rt, judged)
+// Every script, for one of the programs.
+fn all<P: Program>(rt: &(impl Print + Eprint)) -> io::Result<()> {
+    worked_cases::<P>(rt)?;
+    empty_cases::<P>(rt)?;
+    unit_cases::<P>(rt)?;
+    again_cases::<P>(rt)?;
+    erase_cases::<P>(rt)?;
+    barrier_cases::<P>(rt)?;
+    range_cases::<P>(rt)?;
+    refused_cases::<P>(rt)?;
+    history_cases::<P>(rt)?;
+    head_cases::<P>(rt)?;
+    geometry_cases::<P>(rt)?;
+    line_cases::<P>(rt)?;
+    field_cases::<P>(rt)?;
+    drawn_cases::<P>(rt)?;
+    more_drawn_cases::<P>(rt)?;
+    long_cases::<P>(rt)
 }
 
 fn main(rt: HostRuntime) -> io::Result<()> {
-    all(&rt, false)?;
-    all(&rt, true)
+    all::<Swept>(&rt)?;
+    all::<Judged>(&rt)
 }

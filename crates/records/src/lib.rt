@@ -1,7 +1,8 @@
 // One record of a run: what its own operations say, and the state that follows. Follows `durability_of` of waymaker-fault's
 // session.rs; specs/Records has document 01's rule over any list of operations, and specs/Columns what it says of operations in
-// columns. `ledger` finds once what does not depend on the record (`Facts`) and asks here for each. Columns of two lengths are
-// read as far as both go.
+// columns. `ledger` finds once what does not depend on the record (`Facts`) and asks here for each. Two columns are taken and no `LogRef`,
+// since the caller cuts them to the operations that count; of two lengths they are read as far as both go. Kinds and answers are the
+// columns' codes: 2 is a barrier, 1 is yes.
 #![tactic(auto)]
 
 ghost use Rattle.std.specs.Prelude.{◌≡◌, ◌≤◌, length};
@@ -21,7 +22,7 @@ pub struct Facts {
     pub barrier: usize,
 }
 
-// State and torn as the columns hold them.
+// State and torn as the columns hold them: `ledger` stores them as they are.
 #[derive(Clone, Copy, Debug, PartialEq, Eq)]
 pub struct Codes {
     pub state: u8,

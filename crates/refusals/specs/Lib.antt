@@ -1,3 +1,4 @@
--- Document 01's numbers of the refusals. Definitions only; assumes nothing.
+-- Document 01's numbers of the refusals, and that none is 0. Assumes nothing.
 pub mod Numbers
 pub mod Nonzero
+pub mod Tests

@@ -1,11 +1,14 @@
 // Document 01's refusals of an input and of a state, one error for each: what every layer above the geometry answers where it
-// refuses. The numbers are one definition (specs/Numbers.antt), which the promises cite.
+// refuses. The numbers are one definition (specs/Numbers.antt), which the promises cite. The test that most layers make of lent columns
+// stands here too.
 #![tactic(auto)]
 
 ghost use Rattle.std.specs.Prelude.{◌≡◌};
+ghost use Rattle.basics.specs.Replies.{number_in};
 ghost use Rattle.refusals.specs.Numbers.{number_of};
 ghost use Rattle.refusals.specs.declared.Refusal.TheVariants.{Geometry};
 ghost use Rattle.refusals.specs.Nonzero.{refusal-nonzero};
+ghost use Rattle.refusals.specs.Tests.{columns_test};
 
 use basics::Numbered;
 use storage::GeometryError;
@@ -54,6 +57,7 @@ impl Numbered for Refusal {
 
     ghost nonzero = { refusal-nonzero };
 
+    // Document 01's number of the refusal: the one place where it gets it.
     fn number(self) -> u32 {
         match self {
             Refusal::Geometry(error) => error.number(),
@@ -83,4 +87,17 @@ impl From<GeometryError> for Refusal {
     fn from(error: GeometryError) -> Refusal {
         Refusal::Geometry(error)
     }
+}
+
+// 12 where columns of one list are unequal or hold what has no meaning, then 13 where they are too short.
+pub fn columns_refusal(uneven: bool, short: bool) -> Result<(), Refusal>
+    ensures { number_in number_of result ≡ columns_test uneven short }
+{
+    if uneven {
+        return Err(Refusal::MalformedColumns);
+    }
+    if short {
+        return Err(Refusal::ColumnsTooShort);
+    }
+    Ok(())
 }

@@ -19,11 +19,10 @@ use Rattle.device.proofs.Pairs.{false_left, false_right}
 use Rattle.model.specs.Columns.{all_up_to}
 use Rattle.session.specs.declared.Told.{Told}
 use Rattle.session.specs.declared.Counters.{Counters}
-use Rattle.std.specs.Prelude.{Ok as Fresh, Err as NotStarted}
+use Rattle.std.specs.Prelude.{Ok as Fresh, Err as NotStarted, Ok as Entries, Err as NotDerived}
 use Rattle.session.specs.Log.{Log, Marks}
 use Rattle.session.specs.Tests.{start_number, start_test}
 use Rattle.session.specs.Start.{Started, fresh, Opened, opened, started}
-use Rattle.std.specs.Prelude.{Ok as Entries, Err as NotDerived}
 use Rattle.ledger.specs.Ledger.{Derived, Entered, entered, ledgered, ledgered_by, ledger_call}
 use Rattle.plain.specs.Plain.{Run}
 use Rattle.plain.specs.Ledger.{ledger}
@@ -66,6 +65,11 @@ module _ (t : Told) (rows : ℕ) (k : Columns) (x : Lent) where
   unfolding rows_number
   same_number zero z = ap (λ (n : ℕ). first_of (lengths ∷ n ∷ [])) (many-are z (all_up_to 4 (take rows k.kinds)) refl)
   same_number (suc n) z = first_of-stop lengths _ (λ w. omega arith) ∙ sym (first_of-stop lengths _ (λ w. omega arith))
+
+  -- the ledger's columns as they were asked
+  pub asked-number : (begins : ℕ) (uneven : Bool) → uneven ≡ uneven_of x
+      → rows_number t.geometry (length x.media) (length x.copy) uneven (short_of rows begins x) 4 rows k ≡ number_for t rows begins k x
+  asked-number begins uneven e = ap (λ (b : Bool). rows_number t.geometry (length x.media) (length x.copy) b (short_of rows begins x) 4 rows k) e
 
   module _ (begins refused : ℕ) (m : begins ≡ begun) (e : refused ≡ number_for t rows begins k x) where
     number_is : replay_number t rows k x ≡ refused

@@ -16,11 +16,11 @@ ghost use Rattle.replay.specs.Replay.{lent, replayed, replay_call};
 
 use model::LedgerMut;
 use refusals::Refusal;
-use rows::{begins_taken, rows_refusal};
+use rows::{Asked, begins_taken, rows_refusal};
 use script::CallsRef;
 use session::{Counters, LogMut, MarksMut, Told};
 
-// A start on columns that the run writes to afterwards: they are lent to be read no longer than the start takes.
+// A start on columns that the run writes to afterwards. (A function for its equation: of the columns as they are lent to be written.)
 fn start(
     told: Told,
     media: &mut [u8],
@@ -37,7 +37,8 @@ fn start(
 
 // Runs a list of calls through a session started on a new device. Leaves each call's answer, the media and the ledger: the plain
 // run's. The copy, the log and the marks are as the last call left them: arrays of a session's limits, so that no length of them
-// is left to test. (They are lent one by one: out of a lent struct the prover lends no two.)
+// is left to test. (They are lent one by one, as a caller in C has them: `LogMut` has slices of any length, which would be
+// to test, and a struct of references to arrays would be `LogMut` once more, made by one caller and taken apart here.)
 pub fn replay(
     told: Told,
     rows: usize,
@@ -60,18 +61,14 @@ pub fn replay(
     ensures left { replayed (numbered number_of result) (lent answers.new media.new copy.new (log_of ops.new spans.new sizes.new digests.new changed.new answered.new) (marks_of marks.new named.new places.new) (entered_in entries.new)) ≡ replay_call told rows (columns_seen calls.now) (lent answers.old media.old copy.old (log_of ops.old spans.old sizes.old digests.old changed.old answered.old) (marks_of marks.old named.old places.old) (entered_in entries.old)) }
 {
     let room = entries.ids.len();
-    let uneven = (entries.states.len() != room) | (entries.torn.len() != room);
     let short = (answers.len() < rows) | (room < begins_taken(rows, calls.kinds));
-    rows_refusal(
-        told.geometry,
-        media.len(),
-        copy.len(),
-        uneven,
+    let asked = Asked {
+        // an end: a list of calls has no range
+        most: 4,
+        uneven: entries.uneven(),
         short,
-        4,
-        rows,
-        calls,
-    )?;
+    };
+    rows_refusal(told.geometry, media.len(), copy.len(), asked, rows, calls)?;
     let mut log = LogMut {
         kinds: ops,
         offsets: spans,

@@ -3,4 +3,3 @@ pub mod Outside
 pub mod Lengths
 pub mod Scanned
 pub mod Numbers
-pub mod Rows

@@ -1,7 +1,7 @@
 -- What the scans over the rows find, a row at a time, and the numbers of the tests. Assumes nothing.
 use mathlib.Core.Path.{◌≡◌, refl, sym, ap, ◌∙◌}
-use mathlib.Core.Bool.{Bool, true, false, ◌&&◌, ◌||◌}
-use mathlib.Core.List.{List}
+use mathlib.Core.Bool.{Bool, true, false, not, ◌&&◌, ◌||◌}
+use mathlib.Core.List.{List, [], ◌∷◌}
 use Prim.Native.Nat.{ℕ, ◌+◌, ◌≤◌, ◌<◌, min}
 use native.Mathlib.Nat.{add_assoc}
 use native.Mathlib.Omega.{arith}
@@ -12,6 +12,7 @@ use Rattle.basics.specs.Tests.{flag, unless, refuse_if, first_of}
 use Rattle.basics.proofs.Scans.{at-step, at-end}
 use Rattle.basics.proofs.Lists.{take-lower}
 use Rattle.model.specs.Columns.{all_up_to}
+use Rattle.refusals.specs.Tests.{columns_test}
 use Rattle.script.specs.Columns.{Columns}
 use Rattle.rows.specs.Rows.{any_outside, contents_number, takes, begins_from}
 
@@ -55,11 +56,7 @@ module _ (most rows : ℕ) (k : Columns) (short : Bool) (n : ℕ) (m : n ≡ min
   known-are : known ≡ all_up_to most (take rows k.kinds)
   known-are = a ∙ ap (λ (j : ℕ). all_up_to most (take j k.kinds)) m ∙ ap (all_up_to most) (take-lower rows k.kinds)
 
-  pub content-unknown : known ≡ false → 12 ≡ contents_number most rows k short
-  unfolding contents_number first_of unless
-  content-unknown h = rw (← known-are, h)
-
-  module _ (all : known ≡ true) (outside : Bool) (o : outside ≡ any_outside (length k.pool) (take n k.kinds) (take n k.seconds) (take n k.starts)) where
+  module _ (outside : Bool) (o : outside ≡ any_outside (length k.pool) (take n k.kinds) (take n k.seconds) (take n k.starts)) where
     outside-is : outside ≡ any_outside (length k.pool) (take rows k.kinds) (take rows k.seconds) (take rows k.starts)
     outside-is =
         let s : take n k.seconds ≡ take rows k.seconds = ap (λ (j : ℕ). take j k.seconds) (m ∙ ap (min rows) (sym es)) ∙ take-lower rows k.seconds in
@@ -67,10 +64,14 @@ module _ (most rows : ℕ) (k : Columns) (short : Bool) (n : ℕ) (m : n ≡ min
         let d : take n k.kinds ≡ take rows k.kinds = ap (λ (j : ℕ). take j k.kinds) m ∙ take-lower rows k.kinds in
         o ∙ λ i. any_outside (length k.pool) (d i) (s i) (t i)
 
-    pub content-short : (short || ltb (length k.kinds) rows || outside) ≡ true → 13 ≡ contents_number most rows k short
-    unfolding contents_number first_of refuse_if unless
-    content-short h = rw (← known-are, all, ← outside-is, h)
+    -- a kind that is not known is 12
+    unless-not : (b : Bool) → refuse_if (not b) 12 ≡ unless b 12
+    unfolding refuse_if unless
+    unless-not true = refl
+    unless-not false = refl
 
-    pub content-fits : (short || ltb (length k.kinds) rows || outside) ≡ false → 0 ≡ contents_number most rows k short
-    unfolding contents_number first_of refuse_if unless
-    content-fits h = rw (← known-are, all, ← outside-is, h)
+    pub contents-are : columns_test (not known) (short || ltb (length k.kinds) rows || outside) ≡ contents_number most rows k short
+    unfolding contents_number
+    contents-are =
+        ap (λ (u : ℕ). first_of (u ∷ refuse_if (short || ltb (length k.kinds) rows || outside) 13 ∷ [])) (unless-not known)
+        ∙ λ i. first_of (unless (known-are i) 12 ∷ refuse_if (short || ltb (length k.kinds) rows || outside-is i) 13 ∷ [])

@@ -1,7 +1,7 @@
 // The rows of a table, tested before they are run: columns of one length, kinds that have a meaning, programs whose bytes are in
 // the pool. A table is a list of calls or a read script's: five columns, a row for each call (kind, three numbers, and where the
 // bytes of a program start), and a pool with the programs' bytes. Kinds are 0 a program, 1 an erase, 2 a barrier, 3 begin, 4 end,
-// 5 a range marked afterwards. Every number that can refuse a run is found here, the lowest first, so that a refused run changes
+// 5 a range marked afterwards; they stay document 01's codes, as the columns hold them (`steps` says why). Every number that can refuse a run is found here, the lowest first, so that a refused run changes
 // nothing.
 #![tactic(auto)]
 
@@ -39,73 +39,67 @@ fn is_outside(kind: u8, start: u32, len: u32, pool: usize) -> bool
     (kind == 0) & (pool < start as usize + len as usize)
 }
 
-// Whether some program's bytes are not all in a pool of this length. The rows are those that all three columns have; a zip
-// of the three would be no plainer, since its items are pairs in pairs.
+// Whether some program's bytes are not all in a pool of this length, in the rows that all three columns have.
 fn any_outside(kinds: &[u8], lens: &[u32], starts: &[u32], pool: usize) -> bool
     ensures { result ≡ any_outside pool kinds.now lens.now starts.now }
 {
-    let both = kinds.len().min(lens.len());
-    let rows = both.min(starts.len());
-    for i in 0..rows {
-        if is_outside(kinds[i], starts[i], lens[i], pool) {
-            return true;
-        }
-    }
-    false
+    let mut rows = kinds.iter().zip(lens).zip(starts);
+    rows.any(|((kind, len), start)| is_outside(*kind, *start, *len, pool))
 }
 
-// Refuses what the rows counted hold, in columns of one length. No kind above `most` has a meaning here; `short` tells whether
-// something else that the run is lent is too short.
-fn contents_refusal(most: u8, rows: usize, calls: &CallsRef<'_>, short: bool) -> Result<(), Refusal>
+// What a run asks beside the rows: the highest kind that has a meaning in it, and whether other columns that it is lent are
+// unequal, or too short.
+#[derive(Clone, Copy, Debug, PartialEq, Eq)]
+pub struct Asked {
+    pub most: u8,
+    pub uneven: bool,
+    pub short: bool,
+}
+
+// Refuses what the rows counted hold, in columns of one length: 12 for a kind without a meaning, then 13.
+fn contents_refusal(asked: Asked, rows: usize, calls: &CallsRef<'_>) -> Result<(), Refusal>
     requires { (length calls.now.seconds.now ≡ length calls.now.kinds.now) × (length calls.now.starts.now ≡ length calls.now.kinds.now) }
-    ensures { number_in number_of result ≡ contents_number most rows (columns_seen calls.now) short }
+    ensures { number_in number_of result ≡ contents_number asked.most rows (columns_seen calls.now) asked.short }
 {
     let there = calls.kinds.len();
     let n = rows.min(there);
-    if !model::all_up_to(&calls.kinds[..n], most) {
-        return Err(Refusal::MalformedColumns);
-    }
+    let kinds = &calls.kinds[..n];
+    let known = model::all_up_to(kinds, asked.most);
     let outside = any_outside(
-        &calls.kinds[..n],
+        kinds,
         &calls.seconds[..n],
         &calls.starts[..n],
         calls.pool.len(),
     );
-    if short | (there < rows) | outside {
-        return Err(Refusal::ColumnsTooShort);
-    }
-    Ok(())
+    refusals::columns_refusal(!known, asked.short | (there < rows) | outside)
 }
 
-// What refuses a run of the rows counted. A kind above `most` has no meaning; `uneven` tells whether other columns that the run
-// is lent are unequal, `short` whether they are too short.
+// What refuses a run of the rows counted.
 pub fn rows_refusal(
     geometry: Geometry,
     media: usize,
     copy: usize,
-    uneven: bool,
-    short: bool,
-    most: u8,
+    asked: Asked,
     rows: usize,
     calls: &CallsRef<'_>,
 ) -> Result<(), Refusal>
-    ensures { number_in number_of result ≡ rows_number geometry media copy uneven short most rows (columns_seen calls.now) }
+    ensures { number_in number_of result ≡ rows_number geometry media copy asked.uneven asked.short asked.most rows (columns_seen calls.now) }
 {
     let listed = calls.uneven();
-    lengths_refusal(geometry, media, copy, uneven | listed)?;
-    contents_refusal(most, rows, calls, short)
+    lengths_refusal(geometry, media, copy, asked.uneven | listed)?;
+    contents_refusal(asked, rows, calls)
 }
 
 // ---- room for a ledger
 
-// How many begins a session takes of calls with these kinds: it takes 512 marks, stopped or not.
+// How many begins a session takes of calls with these kinds: it takes so many marks, stopped or not.
 fn begins_in(kinds: &[u8]) -> usize
     ensures { result ≡ begins_from 0 kinds.now }
 {
     let mut begins: usize = 0;
     let mut marks: usize = 0;
     for kind in kinds {
-        let taken = (*kind >= 3) & (marks < 512);
+        let taken = (*kind >= 3) & (marks < session::MARKS);
         begins += usize::from(taken & (*kind == 3));
         marks += usize::from(taken);
     }

@@ -2,7 +2,7 @@
 --     verdict-line                     the line of `judge` on a history
 --     judged-by                        the line of `judge` on the suggested history
 --     judged-refused, judged-listed    the same: no history is suggested, or one
---     judged-way, swept-way            the line of a ledger, one way or the other
+--     judged-way, swept-way            the line of a ledger, by program
 --     rows-line                        the line of a ledger that is the first rows of columns of 512
 --     on-part                          a run on a part of the media
 --     armed-is                         the line of a run by how it ended
@@ -21,27 +21,21 @@ use Rattle.basics.specs.Tests.{unless, first_of}
 use Rattle.basics.proofs.Tests.{first_of-zero}
 use Rattle.basics.proofs.Lists.{take-few}
 use Rattle.landing.specs.declared.Stop.{Stop}
-use Rattle.std.specs.Prelude.{Result}
-use Rattle.std.specs.Prelude.{Err as ListRefused, Ok as ListIs}
+use Rattle.std.specs.Prelude.{Result, Err as ListRefused, Ok as ListIs, None as Absent, Err as NotWritten}
 use Rattle.model.specs.Ledger.{Entry}
 use Rattle.model.specs.Columns.{ledger_of, refused}
 use Rattle.model.specs.Answers.{Written, written_unless}
-use Rattle.std.specs.Prelude.{None as Absent}
-use Rattle.oracle.specs.Verdict.{Verdict}
-use Rattle.oracle.specs.Verdict.{number_of, verdict, verified}
+use Rattle.oracle.specs.Verdict.{Verdict, number_of, verdict, verified}
 use Rattle.session.specs.Armed.{Armed}
 use Rattle.ledger.specs.Ledger.{Entered, entered_of}
 use Rattle.script.specs.declared.Head.{Head}
 use Rattle.script.specs.Columns.{Columns}
-use Rattle.lines.specs.Answers.{Line}
-use Rattle.std.specs.Prelude.{Err as NotWritten}
+use Rattle.lines.specs.Answers.{Line, Put, put}
 use Rattle.history.specs.History.{suggested, suggested_written}
 use Rattle.lines.specs.Lines.{judged_line}
-use Rattle.lines.specs.Answers.{Put, put}
 use Rattle.sweep_lines.specs.Answers.{sweep_put}
 use Rattle.armed_runs.specs.Places.{Placed, placed_at}
-use Rattle.harness_runs.specs.Running.{Ran}
-use Rattle.harness_runs.specs.Running.{zeros, run_left, run_call, ran_on}
+use Rattle.harness_runs.specs.Running.{Ran, zeros, run_left, run_call, ran_on}
 use Rattle.text_of_runs.specs.Claim.{rows_to}
 use Rattle.run_lines.specs.RunLine.{judged_of, history_test, judge_put, line_put, RunEnd, run_end, end_of, line_ended, armed_put, line_placed, run_line_call}
 
@@ -110,19 +104,19 @@ module _ (place : ℕ) (is ss ts : List ℕ) (at : ℕ) (out : List ℕ) where
 
 -- ---- the line of a ledger
 
-module _ (judged : Bool) (place : ℕ) (a : Armed) (s : Stop) (operations : ℕ) (is ss ts : List ℕ) (at : ℕ) (out : List ℕ) where
-  pub judged-way : judged ≡ true → (p : Put) → p ≡ judge_put place is ss ts at out → p ≡ line_put judged place a s operations (entered_of is ss ts) at out
+module _ (place : ℕ) (a : Armed) (s : Stop) (operations : ℕ) (is ss ts : List ℕ) (at : ℕ) (out : List ℕ) where
+  pub judged-way : (p : Put) → p ≡ judge_put place is ss ts at out → p ≡ line_put true place a s operations (entered_of is ss ts) at out
   unfolding line_put
-  judged-way e p h = rw e h
+  judged-way p h = h
 
-  pub swept-way : judged ≡ false → (p : Put) → p ≡ sweep_put place a s operations is ss ts at out → p ≡ line_put judged place a s operations (entered_of is ss ts) at out
+  pub swept-way : (p : Put) → p ≡ sweep_put place a s operations is ss ts at out → p ≡ line_put false place a s operations (entered_of is ss ts) at out
   unfolding line_put
-  swept-way e p h = rw e h
+  swept-way p h = h
 
-  pub rows-line : (count : ℕ) → length is ≡ 512 → length ss ≡ 512 → length ts ≡ 512 → (n : ℕ) → n ≡ min count 512 → (p : Put)
+  pub rows-line : (judged : Bool) (count : ℕ) → length is ≡ 512 → length ss ≡ 512 → length ts ≡ 512 → (n : ℕ) → n ≡ min count 512 → (p : Put)
       → p ≡ line_put judged place a s operations (entered_of (take n is) (take n ss) (take n ts)) at out
       → p ≡ line_put judged place a s operations (rows_to count (entered_of is ss ts)) at out
-  rows-line count li ls lt n m p h =
+  rows-line judged count li ls lt n m p h =
       let ei : take n is ≡ take count is = take-few is 512 count n li m in
       let es : take n ss ≡ take count ss = take-few ss 512 count n ls m in
       let et : take n ts ≡ take count ts = take-few ts 512 count n lt m in

@@ -18,8 +18,7 @@ use Rattle.lines.specs.Lines.{judged_line}
 use Rattle.history.specs.History.{suggested_written}
 use Rattle.lines.specs.Answers.{put}
 use Rattle.armed_runs.specs.Places.{Placed}
-use Rattle.harness_runs.specs.Running.{Ran}
-use Rattle.harness_runs.specs.Running.{zeros, RunLeft, ran_on}
+use Rattle.harness_runs.specs.Running.{Ran, zeros, RunLeft, ran_on}
 use Rattle.harness.specs.Opening.{OpenLeft}
 use Rattle.text_of_runs.specs.Claim.{RunPrinted, PlacePrinted}
 use Rattle.run_lines.specs.RunLine.{judge_put, line_put, line_ended, armed_put, line_placed, run_line_call}

@@ -11,13 +11,11 @@ use Rattle.session.specs.Armed.{Armed}
 use Rattle.ledger.specs.Ledger.{Entered}
 use Rattle.script.specs.declared.Head.{Head}
 use Rattle.script.specs.Columns.{Columns}
-use Rattle.lines.specs.Answers.{Line}
+use Rattle.lines.specs.Answers.{Line, Put, put}
 use Rattle.history.specs.History.{suggested}
 use Rattle.lines.specs.Lines.{judged_line}
-use Rattle.lines.specs.Answers.{Put, put}
 use Rattle.sweep_lines.specs.Answers.{sweep_put}
-use Rattle.armed_runs.specs.Places.{Placed}
-use Rattle.armed_runs.specs.Places.{placed_at}
+use Rattle.armed_runs.specs.Places.{Placed, placed_at}
 use Rattle.harness_runs.specs.Running.{Ran, Ended, NotRun, RunLeft, ran_on}
 use Rattle.text_of_runs.specs.Claim.{rows_to}
 

@@ -1,9 +1,9 @@
-// The line of the run at a place of a sweep, as `sweep` or `judge` prints it, written into a buffer that the caller lends: what is
-// armed there, the script's run with it, its ledger, its line. All that a run is lent are locals of zeros, so it depends on nothing
-// that an earlier run left. Each promise is an equation with a definition of specs/.
+// The line of the run at a place of a sweep, as one of the two programs prints it, written at a lent `Cursor`: what is armed there, the
+// writer's run with it, its ledger, its line. All that a run is lent are locals of zeros, so it depends on nothing that an earlier run
+// left. Each promise is an equation with a definition of specs/.
 #![tactic(auto)]
 
-ghost use Rattle.std.specs.Prelude.{◌≡◌, ◌≤◌, min, length, take, [], IsErr, None as Absent};
+ghost use Rattle.std.specs.Prelude.{◌≡◌, Bool, true, false, length, take, [], IsErr, None as Absent};
 ghost use Rattle.basics.specs.Replies.{number_in};
 ghost use Rattle.ledger.specs.Ledger.{entered_of};
 ghost use Rattle.script.specs.Lent.{columns_seen};
@@ -12,20 +12,21 @@ ghost use Rattle.lines.specs.Answers.{put};
 ghost use Rattle.lines.specs.Written.{written};
 ghost use Rattle.lines.specs.Lines.{judged_line};
 ghost use Rattle.oracle.specs.Verdict.{number_of, verified};
-ghost use Rattle.text_of_runs.specs.Claim.{rows_to};
 ghost use Rattle.harness_runs.specs.Running.{zeros, run_call, ran_as};
 ghost use Rattle.run_lines.specs.RunLine.{judge_put, line_put, run_end, end_of, armed_put, run_line_call};
 
 use basics::number_in;
-use harness_runs::Run;
+use harness_runs::{Entries, Recorded, Run, Writer};
 use inject::{Injection, OpsRef};
-use landing::Stop;
 use model::LedgerRef;
 use pieces::Cursor;
 use refusals::Refusal;
-use script::{CallsRef, Head};
+use session::{MARKS, OPERATIONS};
 
-// ---- the line of a ledger
+// A script's capacity is at most this: above it, `script` refuses with 10.
+pub const MOST_CELLS: usize = script::MOST_CAPACITY as usize;
+
+// ---- the line of `judge`
 
 // The verdict on a history, and the history, as a line. Nothing is dispatched, and there is no bank count.
 fn verdict_line(
@@ -48,143 +49,137 @@ fn judged_line(place: u64, ledger: &LedgerRef<'_>, to: &mut Cursor<'_>) -> Resul
     ensures put { written result to.new ≡ judge_put place ledger.now.ids.now ledger.now.states.now ledger.now.torn.now to.old.at to.old.out.now }
     ensures stays { IsErr result → to.new.at ≡ to.old.at }
 {
-    let mut history = [0u32; 512];
+    let mut history = [0u32; MARKS];
     let count = history::suggested(ledger, &mut history)?;
-    let kept = basics::lower(count, 512);
+    let kept = basics::lower(count, MARKS);
     verdict_line(place, ledger, &history[..kept], to)
 }
 
-// The line of a ledger, judged or swept.
-fn line_of(
-    judged: bool,
-    place: u64,
-    armed: Option<Injection>,
-    run: Run,
-    ledger: &LedgerRef<'_>,
-    to: &mut Cursor<'_>,
-) -> Result<(), Refusal>
-    ensures same { SameOut to.old to.new }
-    ensures put { written result to.new ≡ line_put judged place armed run.stop run.operations (entered_of ledger.now.ids.now ledger.now.states.now ledger.now.torn.now) to.old.at to.old.out.now }
-    ensures stays { IsErr result → to.new.at ≡ to.old.at }
-{
-    if judged {
-        return judged_line(place, ledger, to);
-    }
-    sweep_lines::sweep_line(place, armed, run.stop, run.operations, ledger, to)
+// ---- the two programs
+
+// One of the two programs, by the line that it has for a run and its ledger.
+pub trait Program {
+    ghost judged: { Bool };
+
+    fn line(
+        place: u64,
+        armed: Option<Injection>,
+        run: Run,
+        ledger: &LedgerRef<'_>,
+        to: &mut Cursor<'_>,
+    ) -> Result<(), Refusal>
+        ensures same { SameOut to.old to.new }
+        ensures put { written result to.new ≡ line_put judged place armed run.stop run.operations (entered_of ledger.now.ids.now ledger.now.states.now ledger.now.torn.now) to.old.at to.old.out.now }
+        ensures stays { IsErr result → to.new.at ≡ to.old.at };
 }
 
-// The line of a ledger that is the first rows of columns of 512.
-fn ledger_line(
-    judged: bool,
-    place: u64,
-    armed: Option<Injection>,
-    run: Run,
-    entries: &LedgerRef<'_>,
-    to: &mut Cursor<'_>,
-) -> Result<(), Refusal>
-    requires { (length entries.now.ids.now ≡ 512) × (length entries.now.states.now ≡ 512) × (length entries.now.torn.now ≡ 512) }
-    ensures same { SameOut to.old to.new }
-    ensures put { written result to.new ≡ line_put judged place armed run.stop run.operations (rows_to run.entries (entered_of entries.now.ids.now entries.now.states.now entries.now.torn.now)) to.old.at to.old.out.now }
-    ensures stays { IsErr result → to.new.at ≡ to.old.at }
-{
-    let n = basics::lower(run.entries, 512);
-    let ledger = LedgerRef {
-        ids: &entries.ids[..n],
-        states: &entries.states[..n],
-        torn: &entries.torn[..n],
-    };
-    line_of(judged, place, armed, run, &ledger, to)
+// `sweep`: how the run ended, and its ledger.
+pub struct Swept;
+
+impl Program for Swept {
+    ghost judged = { false };
+
+    fn line(
+        place: u64,
+        armed: Option<Injection>,
+        run: Run,
+        ledger: &LedgerRef<'_>,
+        to: &mut Cursor<'_>,
+    ) -> Result<(), Refusal> {
+        sweep_lines::sweep_line(place, armed, run.stop, run.operations, ledger, to)
+    }
+}
+
+// `judge`: the verdict on the suggested history.
+pub struct Judged;
+
+impl Program for Judged {
+    ghost judged = { true };
+
+    fn line(
+        place: u64,
+        _armed: Option<Injection>,
+        _run: Run,
+        ledger: &LedgerRef<'_>,
+        to: &mut Cursor<'_>,
+    ) -> Result<(), Refusal> {
+        judged_line(place, ledger, to)
+    }
 }
 
 // ---- the run
 
-// A run on as much of the media as the script's line 1 says. (The arrays are lent one by one, as `harness_runs::run_one` takes them.)
+// A run on as much of the media as the script's line 1 says.
 fn run_on(
-    head: Head,
+    writer: &Writer<'_>,
     armed: Option<Injection>,
-    rows: usize,
-    calls: &CallsRef<'_>,
-    media: &mut [u8],
-    copy: &mut [u8],
-    ids: &mut [u32; 512],
-    states: &mut [u8; 512],
-    torn: &mut [u8; 512],
+    media: &mut [u8; MOST_CELLS],
+    copy: &mut [u8; MOST_CELLS],
+    entries: &mut Entries,
 ) -> Result<Run, Refusal>
-    requires { (length media.old ≡ 16384) × (length copy.old ≡ 16384) }
-    ensures { run_end (ran_as result) (entered_of ids.new states.new torn.new) ≡ end_of (run_call head armed rows (columns_seen calls.now) (take head.geometry.capacity media.old) (take head.geometry.capacity copy.old) (zeros 1024) (zeros 1024) (zeros 1024) (entered_of ids.old states.old torn.old)) }
+    ensures { run_end (ran_as result) (entered_of entries.new.ids entries.new.states entries.new.torn) ≡ end_of (run_call writer.now.head armed writer.now.rows (columns_seen writer.now.calls) (take writer.now.head.geometry.capacity media.old) (take writer.now.head.geometry.capacity copy.old) (zeros 1024) (zeros 1024) (zeros 1024) (entered_of entries.old.ids entries.old.states entries.old.torn)) }
 {
-    let mut ops = [0u8; 1024];
-    let mut spans = [0u32; 1024];
-    let mut sizes = [0u32; 1024];
-    let capacity = basics::lower(head.geometry.capacity as usize, 16384);
+    let mut recorded = Recorded {
+        kinds: [0; OPERATIONS],
+        offsets: [0; OPERATIONS],
+        lens: [0; OPERATIONS],
+    };
+    let capacity = basics::lower(writer.head.geometry.capacity as usize, MOST_CELLS);
     harness_runs::run_one(
-        head,
+        writer,
         armed,
-        rows,
-        calls,
         &mut media[..capacity],
         &mut copy[..capacity],
-        &mut ops,
-        &mut spans,
-        &mut sizes,
-        ids,
-        states,
-        torn,
+        &mut recorded,
+        entries,
     )
 }
 
 // The line of the run with what is armed.
-fn armed_line(
-    judged: bool,
+fn armed_line<P: Program>(
     place: u64,
     armed: Option<Injection>,
-    head: Head,
-    rows: usize,
-    calls: &CallsRef<'_>,
+    writer: &Writer<'_>,
     to: &mut Cursor<'_>,
 ) -> Result<(), Refusal>
     ensures same { SameOut to.old to.new }
-    ensures put { written result to.new ≡ armed_put judged place armed head rows (columns_seen calls.now) to.old.at to.old.out.now }
+    ensures put { written result to.new ≡ armed_put P.judged place armed writer.now.head writer.now.rows (columns_seen writer.now.calls) to.old.at to.old.out.now }
     ensures stays { IsErr result → to.new.at ≡ to.old.at }
 {
-    let mut media = [0u8; 16384];
-    let mut copy = [0u8; 16384];
-    let mut ids = [0u32; 512];
-    let mut states = [0u8; 512];
-    let mut torn = [0u8; 512];
-    let run = run_on(
-        head,
-        armed,
-        rows,
-        calls,
-        &mut media,
-        &mut copy,
-        &mut ids,
-        &mut states,
-        &mut torn,
-    )?;
-    let ledger = LedgerRef {
-        ids: &ids,
-        states: &states,
-        torn: &torn,
+    let mut media = [0u8; MOST_CELLS];
+    let mut copy = [0u8; MOST_CELLS];
+    let mut entries = Entries {
+        ids: [0; MARKS],
+        states: [0; MARKS],
+        torn: [0; MARKS],
     };
-    ledger_line(judged, place, armed, run, &ledger, to)
+    let run = run_on(writer, armed, &mut media, &mut copy, &mut entries)?;
+    let all = LedgerRef {
+        ids: &entries.ids,
+        states: &entries.states,
+        torn: &entries.torn,
+    };
+    // The whole columns first, then the cut: of `&entries.ids[..n]` after a call the array's length is not known.
+    let n = basics::lower(run.entries, MARKS);
+    let ledger = LedgerRef {
+        ids: &all.ids[..n],
+        states: &all.states[..n],
+        torn: &all.torn[..n],
+    };
+    P::line(place, armed, run, &ledger, to)
 }
 
-// The line of the run at a place among a script's runs, whose fault-free run recorded these operations.
-pub fn run_line(
-    judged: bool,
+// The line of the run at a place among a writer's runs, whose fault-free run recorded these operations.
+pub fn run_line<P: Program>(
     place: u64,
-    head: Head,
-    rows: usize,
-    calls: &CallsRef<'_>,
+    writer: &Writer<'_>,
     ops: &OpsRef<'_>,
     to: &mut Cursor<'_>,
 ) -> Result<(), Refusal>
     ensures same { SameOut to.old to.new }
-    ensures put { written result to.new ≡ run_line_call judged place head rows (columns_seen calls.now) ops.now.kinds.now ops.now.offsets.now ops.now.lens.now to.old.at to.old.out.now }
+    ensures put { written result to.new ≡ run_line_call P.judged place writer.now.head writer.now.rows (columns_seen writer.now.calls) ops.now.kinds.now ops.now.offsets.now ops.now.lens.now to.old.at to.old.out.now }
     ensures stays { IsErr result → to.new.at ≡ to.old.at }
 {
-    let armed = armed_runs::point_at(place, head.geometry, ops)?;
-    armed_line(judged, place, armed, head, rows, calls, to)
+    let armed = armed_runs::point_at(place, writer.head.geometry, ops)?;
+    armed_line::<P>(place, armed, writer, to)
 }

@@ -1,6 +1,6 @@
 // A table of rows through a session, one after the other: a list of calls, or a script's lines. Five columns, a row for each call
-// (`steps` has their kinds), and a pool with the programs' bytes. A run of rows derives nothing; who wants the ledger of the session
-// that it left asks `ledger` for it afterwards.
+// (`steps` has their kinds), and a pool with the programs' bytes. `run_rows` derives nothing; `run_ledgered` derives the ledger of the
+// session that the rows left as well. How many rows count is told apart from the columns, which may be longer.
 #![tactic(auto)]
 
 ghost use Rattle.std.specs.Prelude.{◌≡◌};
@@ -13,7 +13,7 @@ ghost use Rattle.session.specs.Lent.{log_in, marks_in, SameLog, SameMarks};
 ghost use Rattle.steps.specs.Step.{session_of};
 ghost use Rattle.runner.specs.Run.{row_in, there, tasks_in, ran_rows, left_of, leaves};
 
-use basics::{number_in, store};
+use basics::{cell, number_in, store};
 use model::LedgerMut;
 use refusals::Refusal;
 use script::CallsRef;
@@ -34,11 +34,11 @@ fn row_at(calls: &CallsRef<'_>, at: usize) -> Row
     ensures { result ≡ row_in (columns_seen calls.now) at }
 {
     Row {
-        kind: calls.kinds.get(at).copied().unwrap_or(0),
-        first: calls.firsts.get(at).copied().unwrap_or(0),
-        second: calls.seconds.get(at).copied().unwrap_or(0),
-        third: calls.thirds.get(at).copied().unwrap_or(0),
-        start: calls.starts.get(at).copied().unwrap_or(0),
+        kind: cell(calls.kinds, at, 0),
+        first: cell(calls.firsts, at, 0),
+        second: cell(calls.seconds, at, 0),
+        third: cell(calls.thirds, at, 0),
+        start: cell(calls.starts, at, 0),
     }
 }
 
@@ -53,7 +53,8 @@ fn rows_there(rows: usize, calls: &CallsRef<'_>) -> usize
 }
 
 // The rows in turn, as far as the first error or, where the run carries on, to the last. Their answers are stored as far as the
-// column for them reaches: a caller that asks for none lends an empty one.
+// column for them reaches: a caller that asks for none lends an empty one. Media, copy, log and marks are lent apart, as each row's
+// call takes them (`steps`): a struct of the four would be taken apart again at every row.
 pub fn run_rows(
     told: Told,
     carries: bool,
@@ -72,6 +73,7 @@ pub fn run_rows(
 {
     let there = rows_there(rows, calls);
     let mut counters = fresh;
+    // By index: a row is a part of five columns, and the answers may end before the rows do.
     for i in 0..there {
         let row = row_at(calls, i);
         let called = steps::step(told, counters, row, calls.pool, media, copy, log, marks);

@@ -3,8 +3,8 @@
 use mathlib.Core.Path.{◌≡◌, refl, ap, ◌∙◌}
 use mathlib.Core.Bool.{Bool, true, false, cond, not, ◌&&◌}
 use mathlib.Core.List.{List, [], ◌∷◌}
-use Prim.Native.Nat.{ℕ, ◌+◌, ◌-◌, ◌*◌, ◌/◌, ◌%◌, ◌≤◌, ◌<◌}
-use native.Mathlib.Nat.{mul-le-mul, mul-pos}
+use Prim.Native.Nat.{ℕ, ◌+◌, ◌*◌, ◌%◌, ◌≤◌, ◌<◌}
+use native.Mathlib.Nat.{mul-pos}
 use native.Mathlib.Omega.{arith}
 use lib.ListN.{length, get_or, drop, drop_of_length-le}
 use lib.Dec.{eqb}
@@ -34,12 +34,14 @@ opened s from k e h p q =
       inside = omega arith;
     }
 
+pub neither : (t u : Bool) → (not t && not u) ≡ true → (t ≡ false) × (u ≡ false)
+neither true u e = absurd (let z : ◌≡◌ {A = ℕ} 0 1 = cc in omega arith)
+neither false true e = absurd (let z : ◌≡◌ {A = ℕ} 0 1 = cc in omega arith)
+neither false false e = (refl, refl)
+
 -- ---- one field: `N` and `S`
 
--- the product is 0 for these two letters alone, and small
-pub product_small : (m n : ℕ) → m % 256 * (n % 256) ≤ 65025
-product_small m n = let a : m % 256 ≤ 255 = omega arith in let b : n % 256 ≤ 255 = omega arith in mul-le-mul a b
-
+-- the product is 0 for these two letters alone
 product-by : (k : ℕ) → k < 256 → (t u : Bool) → eqb k 78 ≡ t → eqb k 83 ≡ u → not (eqb ((k + 178) % 256 * ((k + 173) % 256)) 0) ≡ (not t && not u)
 product-by k h true u p q = rw (eqb-true k 78 p)
 product-by k h false true p q = rw (eqb-true k 83 q)
@@ -53,20 +55,6 @@ product-by k h false false p q =
 
 pub product-tells : (k : ℕ) → k < 256 → not (eqb ((k + 178) % 256 * ((k + 173) % 256)) 0) ≡ (not (eqb k 78) && not (eqb k 83))
 product-tells k h = product-by k h (eqb k 78) (eqb k 83) refl refl
-
-pub neither : (t u : Bool) → (not t && not u) ≡ true → (t ≡ false) × (u ≡ false)
-neither true u e = absurd (let z : ◌≡◌ {A = ℕ} 0 1 = cc in omega arith)
-neither false true e = absurd (let z : ◌≡◌ {A = ℕ} 0 1 = cc in omega arith)
-neither false false e = (refl, refl)
-
--- both letters are at most 87, from which the code is counted
-small_by : (k : ℕ) (t u : Bool) → eqb k 78 ≡ t → eqb k 83 ≡ u → (not t && not u) ≡ false → k ≤ 87
-small_by k true u p q e = let a = eqb-true k 78 p in omega arith
-small_by k false true p q e = let a = eqb-true k 83 q in omega arith
-small_by k false false p q e = absurd (let z : ◌≡◌ {A = ℕ} 0 1 = cc in omega arith)
-
-pub alone-small : (k : ℕ) → (not (eqb k 78) && not (eqb k 83)) ≡ false → k ≤ 87
-alone-small k e = small_by k (eqb k 78) (eqb k 83) refl refl e
 
 alone-by : (t u : Bool) (k : ℕ) (xs : List ℕ) → (k ≡ 78 → ⊥) → (k ≡ 83 → ⊥) → meaning_in (cond t (cells [] [] (10 ∷ xs)) (cond u (push_cell (cells [] [] xs)) (onto_cell k (cells [] [] xs)))) ≡ malformed
 unfolding call_of
@@ -85,21 +73,21 @@ module _ (s : List ℕ) (from k : ℕ) (w : Opened s from k 10) where
   alone-cells : cells_of (drop from s) ≡ cells_of (k ∷ 10 ∷ drop (from + 2) s)
   alone-cells = ap cells_of w.is
 
-  alone-end : k ≡ 78 → Taken s from (row_of ((87 - k) / 2) 0 0 0 (from + 2) 0) (from + 2)
+  pub alone-end : k ≡ 78 → Taken s from (row_of 4 0 0 0 (from + 2) 0) (from + 2)
   unfolding cells_of call_of
-  alone-end e = record { it = end; field = 78 ∷ []; others = []; is = alone-cells ∙ rw e; means = refl; kind-is = rw e; first-is = refl; second_is = refl; third-is = refl; size_is = refl; bytes = refl; small = omega arith; forward = omega arith; inside = w.inside }
+  alone-end e = record { it = end; field = 78 ∷ []; others = []; is = alone-cells ∙ rw e; means = refl; kind-is = refl; first-is = refl; second_is = refl; third-is = refl; size_is = refl; bytes = refl; small = omega arith; forward = omega arith; inside = w.inside }
 
-  alone-barrier : k ≡ 83 → Taken s from (row_of ((87 - k) / 2) 0 0 0 (from + 2) 0) (from + 2)
+  alone-barrier : k ≡ 83 → Taken s from (row_of 2 0 0 0 (from + 2) 0) (from + 2)
   unfolding cells_of call_of
-  alone-barrier e = record { it = barrier; field = 83 ∷ []; others = []; is = alone-cells ∙ rw e; means = refl; kind-is = rw e; first-is = refl; second_is = refl; third-is = refl; size_is = refl; bytes = refl; small = omega arith; forward = omega arith; inside = w.inside }
+  alone-barrier e = record { it = barrier; field = 83 ∷ []; others = []; is = alone-cells ∙ rw e; means = refl; kind-is = refl; first-is = refl; second_is = refl; third-is = refl; size_is = refl; bytes = refl; small = omega arith; forward = omega arith; inside = w.inside }
 
-  row_by : (t u : Bool) → eqb k 78 ≡ t → eqb k 83 ≡ u → (not t && not u) ≡ false → Taken s from (row_of ((87 - k) / 2) 0 0 0 (from + 2) 0) (from + 2)
-  row_by true u p q e = alone-end (eqb-true k 78 p)
-  row_by false true p q e = alone-barrier (eqb-true k 83 q)
-  row_by false false p q e = absurd (let z : ◌≡◌ {A = ℕ} 0 1 = cc in omega arith)
+  barrier-by : (t u : Bool) → eqb k 78 ≡ t → eqb k 83 ≡ u → (not t && not u) ≡ false → (k ≡ 78 → ⊥) → k ≡ 83
+  barrier-by true u p q e n = absurd (n (eqb-true k 78 p))
+  barrier-by false true p q e n = eqb-true k 83 q
+  barrier-by false false p q e n = absurd (let z : ◌≡◌ {A = ℕ} 0 1 = cc in omega arith)
 
-  pub alone-row : (not (eqb k 78) && not (eqb k 83)) ≡ false → Taken s from (row_of ((87 - k) / 2) 0 0 0 (from + 2) 0) (from + 2)
-  alone-row e = row_by (eqb k 78) (eqb k 83) refl refl e
+  pub alone-other : (not (eqb k 78) && not (eqb k 83)) ≡ false → (k ≡ 78 → ⊥) → Taken s from (row_of 2 0 0 0 (from + 2) 0) (from + 2)
+  alone-other e n = alone-barrier (barrier-by (eqb k 78) (eqb k 83) refl refl e n)
 
   pub alone-faulty : (not (eqb k 78) && not (eqb k 83)) ≡ true → meaning_in (cells_of (drop from s)) ≡ malformed
   unfolding cells_of
@@ -364,4 +352,4 @@ line-cut s from h k =
     ∙ cut-by (eqb (get_or s from 0) 10) (eqb (get_or s from 0) 9) (get_or s from 0)
 
 -- all of them, for `search (rules, letters)`
-pub ruleset letters = (opened, alone-row, alone-faulty, begin-taken, begin-faulty, erase-faulty, erase-faulty-2, erase-taken, mark-faulty, mark-faulty-2, mark-faulty-3, mark-taken, program-faulty, program-faulty-2, program-faulty-3, program-taken, line-long-at, line-none-at, line-cut)
+pub ruleset letters = (opened, alone-end, alone-other, alone-faulty, begin-taken, begin-faulty, erase-faulty, erase-faulty-2, erase-taken, mark-faulty, mark-faulty-2, mark-faulty-3, mark-taken, program-faulty, program-faulty-2, program-faulty-3, program-taken, line-long-at, line-none-at, line-cut)

@@ -3,6 +3,7 @@ pub mod Cells
 pub mod Told
 pub mod Letters
 pub mod Heads
+pub mod Placed
 pub mod Passes
 pub mod Enough
 pub mod Fills

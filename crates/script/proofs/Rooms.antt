@@ -8,8 +8,9 @@ use native.Mathlib.Omega.{arith}
 use lib.ListN.{length, drop}
 use lib.Dec.{eqb, leb, ltb}
 use borrow.Author.Tests.{ne_eqb, eqb-true, leb-true, le-leb, lt-leb, ltb-true, ltb-false}
-use Rattle.basics.specs.Tests.{unless, first_of}
+use Rattle.basics.specs.Tests.{unless, refuse_if, first_of}
 use Rattle.basics.proofs.Tests.{unless-zero, first_of-zero}
+use Rattle.refusals.specs.Tests.{columns_test}
 use Rattle.text.specs.Lines.{lines_of}
 use Rattle.std.proofs.lemmas.Bool.{and_parts}
 use Rattle.script.specs.declared.Head.{Head}
@@ -50,18 +51,24 @@ enough-by false true e = sym e
 enough-by false false e = refl
 
 module _ (k a b c s p n m : ℕ) where
-  pub room-unequal : five_uneven k a b c s ≡ true → 12 ≡ room_for k a b c s p n m
+  room-unequal : five_uneven k a b c s ≡ true → 12 ≡ room_for k a b c s p n m
   unfolding room_for first_of unless
   room-unequal e = rw (unequal-by (eqb a k) (eqb b k) (eqb c k) (eqb s k) e)
 
   module _ (e : five_uneven k a b c s ≡ false) where
-    pub room-short : (ltb k n || ltb p m) ≡ true → 13 ≡ room_for k a b c s p n m
+    room-short : (ltb k n || ltb p m) ≡ true → 13 ≡ room_for k a b c s p n m
     unfolding room_for first_of unless
     room-short q = rw (equal_by (eqb a k) (eqb b k) (eqb c k) (eqb s k) e, turned (ltb k n) k n refl, turned (ltb p m) p m refl, short-by (ltb k n) (ltb p m) q)
 
-    pub room-enough : (ltb k n || ltb p m) ≡ false → 0 ≡ room_for k a b c s p n m
+    room-enough : (ltb k n || ltb p m) ≡ false → 0 ≡ room_for k a b c s p n m
     unfolding room_for first_of unless
     room-enough q = rw (equal_by (eqb a k) (eqb b k) (eqb c k) (eqb s k) e, turned (ltb k n) k n refl, turned (ltb p m) p m refl, enough-by (ltb k n) (ltb p m) q)
+
+  pub room-is : (u t : Bool) → five_uneven k a b c s ≡ u → (ltb k n || ltb p m) ≡ t → columns_test u t ≡ room_for k a b c s p n m
+  unfolding first_of refuse_if
+  room-is true t e q = room-unequal e
+  room-is false true e q = room-short e q
+  room-is false false e q = room-enough e q
 
 -- what an unrefused call knows
 record Equal (k a b c s p n m : ℕ) : Type 0 where
@@ -152,4 +159,4 @@ never-short s h cs kinds firsts seconds thirds starts pool e k a b c t p =
     simp (e, k, a, b, c, t, p, le-leb _ _ x, le-leb _ _ y)
 
 -- all of them, for `search (rules, rooms)`
-pub ruleset rooms = (room-unequal, room-short, room-enough, count-bad, count-good, read-bad, read-ready, read_done)
+pub ruleset rooms = (count-bad, count-good, read-bad, read-ready, read_done)

@@ -31,9 +31,27 @@ pub const MOST_TEXT: usize = 65536;
 pub const MOST_CALLS: usize = 32768;
 // And so is a pool of this length: a byte of a program takes two digits.
 pub const MOST_BYTES: usize = 32768;
+// A capacity above this is refused with 10.
+pub const MOST_CAPACITY: u32 = 16384;
+// A program has this many bytes at most.
+const MOST_PROGRAM: usize = 4096;
+
+// The codes of the kinds of rows. (Numbers: an enum would be made here and turned into its code where the row is stored; nothing between
+// asks for one.)
+const PROGRAM: u8 = 0;
+
+const ERASE: u8 = 1;
+
+const BARRIER: u8 = 2;
+
+const BEGIN: u8 = 3;
+
+const END: u8 = 4;
+
+const RANGE: u8 = 5;
 
 // What line 1 says: the device, whether a bit set without an erase is rejected (else absorbed), and whether the writer
-// carries on at an error (else it stops and returns it).
+// carries on at an error (else it stops and returns it): flags, as line 1 has them, since this crate knows no device.
 #[derive(Clone, Copy, Debug, PartialEq, Eq)]
 pub struct Head {
     pub geometry: Geometry,
@@ -49,7 +67,8 @@ pub struct Script {
     pub bytes: u32,
 }
 
-// What refuses a script, and the line, which is 0 where the fault is in no line.
+// What refuses a script, and the line, which is 0 where the fault is in no line. (No `From<Refusal>`: the line is known where the refusal is
+// met.)
 #[derive(Clone, Copy, Debug, PartialEq, Eq)]
 pub struct ScriptError {
     pub refusal: Refusal,
@@ -92,6 +111,10 @@ struct Row {
 }
 
 // ---- a line after the first, by its letter
+//
+// Each reader takes the text and a place in it, and requires that a line of its own letter starts there. A struct of the two would
+// be built anew at each field; with the fact in a ghost field it would hold the letter too, and each reader would still say which.
+// Of a slice of what is left, every contract would have to say which part of the text it is.
 
 // The row of a call without bytes.
 fn bare_row(kind: u8, first: u32, second: u32, third: u32, start: usize) -> Row
@@ -107,8 +130,9 @@ fn bare_row(kind: u8, first: u32, second: u32, third: u32, start: usize) -> Row
     }
 }
 
-// Whether a letter is neither `N` nor `S`. A product in place of two tests: nothing foretells which of the two comes next,
-// and a branch between them would be guessed wrong every other time.
+// Whether a letter is neither `N` nor `S`. A product in place of two tests: nothing foretells which of the two comes next, and
+// a branch between them is guessed wrong every other time. By a `match`, or by `matches!`, lines of these two took 1.6 times as
+// long.
 fn other_letter(kind: u8) -> bool
     ensures { result ≡ (not (eqb kind 78) && not (eqb kind 83)) }
 {
@@ -118,7 +142,7 @@ fn other_letter(kind: u8) -> bool
     from_end * from_barrier != 0
 }
 
-// `N` ends, and `S` is a barrier: the LF follows the letter.
+// `N` ends, and `S` is a barrier: the LF follows the letter. (`text` is for the promise alone.)
 fn alone_line(text: &[u8], from: usize, kind: u8) -> Option<(Row, usize)>
     requires { Opened text.now from kind 10 }
     ensures { Reads text.now from result }
@@ -127,8 +151,7 @@ fn alone_line(text: &[u8], from: usize, kind: u8) -> Option<(Row, usize)>
     if other {
         return None;
     }
-    // Half of what is left to 87, rounded down, is 4 for `N` and 2 for `S`: again no branch between the two.
-    let code = (87 - kind) / 2;
+    let code = if kind == b'N' { END } else { BARRIER };
     let next = from + 2;
     Some((bare_row(code, 0, 0, 0, next), next))
 }
@@ -139,7 +162,7 @@ fn begin_line(text: &[u8], from: usize) -> Option<(Row, usize)>
     ensures { Reads text.now from result }
 {
     let (id, next) = read_fields::read_number(text, from + 2, LF)?;
-    Some((bare_row(3, id, 0, 0, next), next))
+    Some((bare_row(BEGIN, id, 0, 0, next), next))
 }
 
 // `M` id from to marks a range.
@@ -150,7 +173,7 @@ fn mark_line(text: &[u8], from: usize) -> Option<(Row, usize)>
     let (id, at) = read_fields::read_number(text, from + 2, TAB)?;
     let (first, past) = read_fields::read_number(text, at, TAB)?;
     let (last, next) = read_fields::read_number(text, past, LF)?;
-    Some((bare_row(5, id, first, last, next), next))
+    Some((bare_row(RANGE, id, first, last, next), next))
 }
 
 // `E` offset length.
@@ -160,22 +183,22 @@ fn erase_line(text: &[u8], from: usize) -> Option<(Row, usize)>
 {
     let (offset, at) = read_fields::read_number(text, from + 2, TAB)?;
     let (len, next) = read_fields::read_number(text, at, LF)?;
-    Some((bare_row(1, offset, len, 0, next), next))
+    Some((bare_row(ERASE, offset, len, 0, next), next))
 }
 
-// `P` offset bytes: pairs, at most 4,096 of them.
+// `P` offset bytes: pairs, at most MOST_PROGRAM of them.
 fn program_line(text: &[u8], from: usize) -> Option<(Row, usize)>
     requires { Opened text.now from 80 9 }
     ensures { Reads text.now from result }
 {
     let (offset, start) = read_fields::read_number(text, from + 2, TAB)?;
     let (count, next) = hex_pairs::read_pairs(text, start)?;
-    if 4096 < count {
+    if MOST_PROGRAM < count {
         return None;
     }
     let size = count as u32;
     let program = Row {
-        kind: 0,
+        kind: PROGRAM,
         first: offset,
         second: size,
         third: 0,
@@ -185,7 +208,8 @@ fn program_line(text: &[u8], from: usize) -> Option<(Row, usize)>
     Some((program, next))
 }
 
-// The line that starts at a place. A line whose kind letter is none of these is faulty.
+// The line that starts at a place. A line whose kind letter is none of these is faulty. (A `match` on the letter: each reader requires its
+// own.)
 fn read_line(text: &[u8], from: usize) -> Option<(Row, usize)>
     requires { from < length text.now }
     ensures { Reads text.now from result }
@@ -260,7 +284,7 @@ fn head_refusal(geometry: Geometry) -> Result<(), Refusal>
     ensures { number_in number_of result ≡ head_test geometry }
 {
     geometry.check()?;
-    if 16384 < geometry.capacity {
+    if MOST_CAPACITY < geometry.capacity {
         return Err(Refusal::CapacityTooLarge);
     }
     Ok(())
@@ -286,6 +310,7 @@ fn check_lines(text: &[u8], from: usize) -> Result<(u32, u32), ScriptError>
     let mut at = from;
     let mut calls: u32 = 0;
     let mut bytes: u32 = 0;
+    // By places: only reading a line tells where it ends, so that no iterator gives the lines.
     while at < text.len() {
         let Some((row, next)) = read_line(text, at) else {
             return Err(malformed(calls + 2));
@@ -310,14 +335,12 @@ fn check(text: &[u8]) -> Result<(Script, usize), ScriptError>
     let Some((head, body)) = read_head(text) else {
         return Err(malformed(1));
     };
-    if let Err(refusal) = head_refusal(head.geometry) {
-        return Err(ScriptError { refusal, line: 1 });
-    }
+    head_refusal(head.geometry).map_err(|refusal| ScriptError { refusal, line: 1 })?;
     let (calls, bytes) = check_lines(text, body)?;
     Ok((Script { head, calls, bytes }, body))
 }
 
-// Stores a line's bytes over a part of the pool. Most lines have none, and are done at once.
+// Stores a line's bytes over a part of the pool. Most lines have none, and are done at once: by places, so that no slice is made for them.
 fn store_bytes(text: &[u8], start: usize, pool: &mut [u8], used: usize, free: usize)
     requires { (used ≤ free) × (free ≤ length pool.old) }
     ensures { pool.new ≡ stored text.now start pool.old used free }
@@ -344,18 +367,13 @@ impl CallsRef<'_> {
     fn room_refusal(&self, calls: u32, bytes: u32) -> Result<(), Refusal>
         ensures { number_in number_of result ≡ room_test (columns_seen self.now) calls bytes }
     {
-        if self.uneven() {
-            return Err(Refusal::MalformedColumns);
-        }
-        if (self.kinds.len() < calls as usize) | (self.pool.len() < bytes as usize) {
-            return Err(Refusal::ColumnsTooShort);
-        }
-        Ok(())
+        let short = (self.kinds.len() < calls as usize) | (self.pool.len() < bytes as usize);
+        refusals::columns_refusal(self.uneven(), short)
     }
 }
 
 impl CallsMut<'_> {
-    // The columns as they are.
+    // The columns as they are. (As `session` has it of its columns: a trait for all would name a type of answer and a definition for each.)
     pub fn seen(&self) -> CallsRef<'_>
         ensures { columns_seen result ≡ columns_in self.now }
     {
@@ -377,7 +395,7 @@ impl CallsMut<'_> {
         ensures left { columns_in self.new ≡ written (calls_read (read_lines 2 (lines_of (drop from text.now)))) (columns_in self.old) }
     {
         let mut at = from;
-        // Counted by hand: the loop goes by places of the text, and a line takes any number of bytes.
+        // Counted by hand: the loop goes by places of the text, as that of `check_lines`.
         let mut i: usize = 0;
         let mut used: usize = 0;
         while at < text.len() {
@@ -415,9 +433,10 @@ pub fn read_script(text: &[u8], calls: &mut CallsMut<'_>) -> Result<Script, Scri
     ensures left { after (reply_of result) (columns_in calls.new) ≡ read_into text.now (columns_in calls.old) }
 {
     let (script, body) = check(text)?;
-    if let Err(refusal) = calls.seen().room_refusal(script.calls, script.bytes) {
-        return Err(ScriptError { refusal, line: 0 });
-    }
+    calls
+        .seen()
+        .room_refusal(script.calls, script.bytes)
+        .map_err(|refusal| ScriptError { refusal, line: 0 })?;
     calls.fill_lines(text, body);
     Ok(script)
 }

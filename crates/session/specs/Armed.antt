@@ -40,7 +40,7 @@ abbrev pub erase_lands : Armed → (len block : ℕ) → ℕ
 erase_lands Nothing len block = len
 erase_lands (At j) len block = erase_landed j len block
 
--- the same of either, as the code has it (`landed_by`)
+-- a program and an erase in one, as the code has them (`landed_by`)
 abbrev pub lands : (len step unit : ℕ) → Armed → ℕ
 lands len step unit Nothing = len
 lands len step unit (At j) = landed_by j len step unit

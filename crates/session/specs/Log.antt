@@ -1,6 +1,6 @@
 -- Document 01, "session.rs (974)": what a session keeps in lent columns, the operations recorded and the record marks.
 -- Definitions only; assumes nothing.
-use Rattle.std.specs.Prelude.{List, ℕ, set}
+use Rattle.std.specs.Prelude.{Option, None, Some, List, ℕ, set}
 use Rattle.session.specs.declared.Entry.{Entry}
 
 -- "A program, erase or barrier is .. recorded with index, span, digest and whether cells changed": the index is the place in the
@@ -39,6 +39,11 @@ pub record Mark : Type 0 where
 
 abbrev pub mark_of : (code id place : ℕ) → Mark
 mark_of c i p = record { code = c; id = i; place = p }
+
+-- a mark of an id, or of none: an end
+abbrev pub mark_with : Option ℕ → (place : ℕ) → Mark
+mark_with (Some id) p = mark_of 1 id p
+mark_with None p = mark_of 0 0 p
 
 -- the marks with one at an index
 abbrev pub marked : Marks → (index : ℕ) → Mark → Marks

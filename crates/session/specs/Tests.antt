@@ -2,6 +2,7 @@
 -- Definitions only; assumes nothing.
 use Rattle.std.specs.Prelude.{Bool, not, ◌||◌, [], ◌∷◌, ℕ, ◌+◌, length, eqb, leb, ltb}
 use Rattle.basics.specs.Tests.{unless, refuse_if, first_of}
+use Rattle.refusals.specs.Tests.{columns_test}
 use Rattle.storage.specs.declared.Geometry.{Geometry}
 use Rattle.storage.specs.Geometry.{geometry_test}
 use Rattle.session.specs.Log.{Log, Marks}
@@ -31,10 +32,6 @@ log_uneven_of l =
 
 abbrev pub marks_uneven_of : Marks → Bool
 marks_uneven_of m = marks_uneven (length m.codes) (length m.ids) (length m.places)
-
--- columns that are lent: 12, then 13
-abbrev pub columns_test : (uneven short : Bool) → ℕ
-columns_test uneven short = first_of (refuse_if uneven 12 ∷ refuse_if short 13 ∷ [])
 
 -- the log's columns, over their lengths: 12, then 13
 unfoldable pub log_length_test : (kinds offsets lens digests changed answered : ℕ) → ℕ

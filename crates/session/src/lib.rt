@@ -1,31 +1,33 @@
 // The storage that a writer under test is handed: it records every operation, and at most one injection is armed in it.
 // Follows `Session` of waymaker-fault's session.rs. Where the Rust's Session owns its bytes and its lists, here the caller
-// lends them: media and withheld copy, the log of operations and the record marks as columns of numbers. What the start was
-// told is a value that no call changes (`Told`), and what calls change is a small struct that goes in and comes back
-// (`Counters`). Each call first tests the lengths lent to it (7, 12, 13), then whether the session was stopped (21, 22), then
+// lends them: media and withheld copy, the log of operations and the record marks as structs of columns (`LogMut`, `MarksMut`).
+// What the start was told is a value that no call changes (`Told`), and what calls change is a small struct that goes in and comes
+// back (`Counters`). Each call first tests the lengths lent to it (7, 12, 13), then whether the session was stopped (21, 22), then
 // the geometry (1 to 6), then 20, then 27; a refusal changes nothing. Every contract is an equation for every input: a Told or
-// Counters that nobody made by `start` gets an answer too.
+// Counters that nobody made by `start` gets an answer too. Media, copy, log and marks are parameters of their own, since document 01
+// lends them apart: some calls read what others write.
 //
 // This crate has the types and what calls share, and every call's definition but for those of the two that write. The calls are
 // `session_calls` (start, barrier, read), `session_marks`, `session_program` and `session_erase`: each must-fail edit checks its
 // crate anew.
 #![tactic(auto)]
 
-ghost use Rattle.std.specs.Prelude.{◌≡◌, ◌+◌, ◌^◌, ◌<◌};
+ghost use Rattle.std.specs.Prelude.{◌≡◌};
 ghost use Rattle.basics.specs.Replies.{number_in};
 ghost use Rattle.refusals.specs.Numbers.{number_of};
 ghost use Rattle.landing.specs.Ending.{ended_as};
-ghost use Rattle.session.specs.Log.{mark_of, marked, logged};
+ghost use Rattle.session.specs.Log.{mark_with, marked, logged};
 ghost use Rattle.session.specs.Lent.{log_in, log_seen, marks_in, marks_seen, SameLog, SameMarks};
-ghost use Rattle.session.specs.Tests.{columns_test, log_uneven_of, marks_uneven_of, size_test, log_test, marks_test, operation_test};
+ghost use Rattle.session.specs.Tests.{log_uneven_of, marks_uneven_of, size_test, log_test, marks_test, operation_test};
 ghost use Rattle.session.specs.Replies.{told_as, plan_as};
 ghost use Rattle.session.specs.Armed.{told_with, armed_on, lands, ended_by, next_count, replied};
-ghost use Rattle.session.specs.Written.{planned_at, planned_by};
+ghost use Rattle.session.specs.Start.{fresh};
+ghost use Rattle.session.specs.Written.{planned_at};
 
 use device::OneWayBits;
 use inject::Injection;
 use landing::{Ending, Stop};
-use refusals::Refusal;
+use refusals::{Refusal, columns_refusal};
 use storage::Geometry;
 
 // How many operations and marks a session takes.
@@ -53,7 +55,27 @@ pub struct Counters {
     pub withheld: u32,
 }
 
-// The reply to a call: what it answers, no refusal where nothing is refused and nothing was armed, and the counters after it.
+// A session before any call. (No derived Default: `fresh` is a step of document 01, and its promise cites the definition.)
+const FRESH: Counters = Counters {
+    operations: 0,
+    marks: 0,
+    stop: Stop::Running,
+    fired: false,
+    place: 0,
+    withheld: 0,
+};
+
+impl Counters {
+    // Those of a session before any call.
+    pub fn fresh() -> Counters
+        ensures { result ≡ fresh }
+    {
+        FRESH
+    }
+}
+
+// The reply to a call: what it answers, no refusal where nothing is refused and nothing was armed, and the counters after it. (A
+// refused call hands the counters back too, so the five calls test their answer: by `?` each would need a second function.)
 #[derive(Clone, Copy, Debug, PartialEq, Eq)]
 pub struct Called {
     pub answer: Result<(), Refusal>,
@@ -151,6 +173,8 @@ impl LogRef<'_> {
     }
 }
 
+// Log and marks have the same four questions, each over columns of its own: a trait for both would need a type of answer and four
+// definitions for each, and be longer than the second impl.
 impl LogMut<'_> {
     // The columns to read.
     pub fn seen(&self) -> LogRef<'_>
@@ -170,7 +194,8 @@ impl LogMut<'_> {
     pub fn refusal(&self) -> Result<(), Refusal>
         ensures { number_in number_of result ≡ log_test (log_in self.now) }
     {
-        self.seen().refusal()
+        let log = self.seen();
+        log.refusal()
     }
 
     // Records an operation at an index. Past a column's end nothing is stored.
@@ -220,34 +245,26 @@ impl MarksMut<'_> {
     pub fn refusal(&self) -> Result<(), Refusal>
         ensures { number_in number_of result ≡ marks_test (marks_in self.now) }
     {
-        self.seen().refusal()
+        let marks = self.seen();
+        marks.refusal()
     }
 
-    // Stores a mark at an index. Past a column's end nothing is stored.
-    pub fn mark(&mut self, index: usize, code: u8, id: u32, place: u64)
+    // Stores a mark at an index: an id's, or without one an end. Past a column's end nothing is stored.
+    pub fn mark(&mut self, index: usize, id: Option<u32>, place: u64)
         ensures same { SameMarks self.old self.new }
-        ensures left { marks_in self.new ≡ marked (marks_in self.old) index (mark_of code id place) }
+        ensures left { marks_in self.new ≡ marked (marks_in self.old) index (mark_with id place) }
     {
+        let (code, named) = match id {
+            Some(id) => (1, id),
+            None => (0, 0),
+        };
         basics::store(self.codes, index, code);
-        basics::store(self.ids, index, id);
+        basics::store(self.ids, index, named);
         basics::store(self.places, index, place);
     }
 }
 
 // ---- tests that calls share
-
-// 12 where columns of one list are unequal, 13 where they are shorter than the limits.
-pub fn columns_refusal(uneven: bool, short: bool) -> Result<(), Refusal>
-    ensures { number_in number_of result ≡ columns_test uneven short }
-{
-    if uneven {
-        return Err(Refusal::MalformedColumns);
-    }
-    if short {
-        return Err(Refusal::ColumnsTooShort);
-    }
-    Ok(())
-}
 
 // 7 where media or withheld copy are not of capacity length. Two lengths and no struct of both buffers: a start lends the one to be
 // written and the other to be read.
@@ -320,9 +337,26 @@ pub fn reply_of(counters: Counters, armed: Option<Injection>, ending: Ending) ->
     }
 }
 
+// How much of a program or an erase of `len` bytes lands, with `armed` armed on it: all of it where nothing is. `step` and `unit` say
+// where it may stop (`landing::landed_at`).
+pub fn lands(armed: Option<Injection>, len: u32, step: u32, unit: u32) -> u32
+    ensures { result ≡ lands len step unit armed }
+{
+    armed.map_or(
+        len,
+        |injection| landing::landed_at(injection, len, step, unit),
+    )
+}
+
 // What a program or an erase of which `landed` bytes land will do, with `armed` armed on it: its reply, which remembers where
 // those that did not land start (`place`) and how many they are, for the ledger to compare the copy with the media.
-fn planned(counters: Counters, armed: Option<Injection>, len: u32, landed: u32, place: u32) -> Plan
+pub fn planned(
+    counters: Counters,
+    armed: Option<Injection>,
+    len: u32,
+    landed: u32,
+    place: u32,
+) -> Plan
     ensures { plan_as result ≡ planned_at counters armed len landed place }
 {
     let ending = ended_by(armed, landed == len);
@@ -332,25 +366,4 @@ fn planned(counters: Counters, armed: Option<Injection>, len: u32, landed: u32, 
         reply.counters.withheld = len - landed;
     }
     Plan { landed, reply }
-}
-
-// What a program or an erase of `len` bytes at `offset` will do, by the injection that is armed on it: all of it lands where
-// none is. `step` and `unit` say where it may stop (`landing::landed_at`). One that is not refused ends within u32.
-pub fn write_plan(
-    told: Told,
-    counters: Counters,
-    offset: u32,
-    len: u32,
-    step: u32,
-    unit: u32,
-) -> Plan
-    requires { offset + len < 2 ^ 32 }
-    ensures { plan_as result ≡ planned_by counters (armed_on told.armed counters.operations) offset len (lands len step unit) }
-{
-    let armed = armed_for(told.armed, counters.operations);
-    let landed = armed.map_or(
-        len,
-        |injection| landing::landed_at(injection, len, step, unit),
-    );
-    planned(counters, armed, len, landed, offset + landed)
 }

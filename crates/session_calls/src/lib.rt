@@ -13,14 +13,14 @@ ghost use Rattle.session.specs.Start.{opened, started};
 ghost use Rattle.session.specs.Barrier.{barrier_number, barrier_reply, ordered, barriered};
 ghost use Rattle.session.specs.Read.{fetched, read_by};
 
-use landing::Stop;
 use refusals::Refusal;
 use session::{Called, Counters, Entry, LogMut, LogRef, MarksRef, Told};
 use storage::Geometry;
 
 // ---- start
 
-// What refuses a start, over the lengths of media and copy: 1 to 3, 7, 12, 13, the lowest first.
+// What refuses a start, over the lengths of media and copy: 1 to 3, 7, 12, 13, the lowest first: 12 of either list comes before 13 of
+// either.
 fn start_refusal(
     geometry: Geometry,
     media: usize,
@@ -32,7 +32,7 @@ fn start_refusal(
 {
     geometry.check()?;
     session::size_refusal(geometry, media, copy)?;
-    session::columns_refusal(
+    refusals::columns_refusal(
         log.uneven() | marks.uneven(),
         (log.kinds.len() < session::OPERATIONS) | (marks.codes.len() < session::MARKS),
     )
@@ -51,14 +51,7 @@ pub fn start(
 {
     start_refusal(told.geometry, media.len(), copy.len(), log, marks)?;
     device::fill_erased(media);
-    Ok(Counters {
-        operations: 0,
-        marks: 0,
-        stop: Stop::Running,
-        fired: false,
-        place: 0,
-        withheld: 0,
-    })
+    Ok(Counters::fresh())
 }
 
 // ---- barrier
@@ -118,6 +111,7 @@ pub fn read(
 ) -> Result<(), Refusal>
     ensures { fetched (number_in number_of result) dst.new ≡ read_by told counters media.now offset dst.old }
 {
+    // 7 comes before the stop, so it is not left to the device's read.
     if media.len() != told.geometry.capacity as usize {
         return Err(Refusal::MediaLength);
     }

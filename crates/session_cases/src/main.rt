@@ -17,7 +17,7 @@ use refusals::Refusal;
 use script::CallsRef;
 use session::{Counters, LogMut, MarksMut, Told};
 use std::io;
-use storage::Geometry;
+use storage::units;
 
 const INTERRUPTIONS: [Interruption; 3] = [
     Interruption::PowerLoss,
@@ -67,34 +67,16 @@ const MARKED_CALLS: CallsRef<'static> = CallsRef {
 
 // The device 16/8/4/4, with the injection armed.
 fn told_of(injection: Injection) -> Told {
-    let geometry = Geometry {
-        capacity: 16,
-        erase_size: 8,
-        program_size: 4,
-        read_size: 4,
-    };
-    session::told_with(geometry, OneWayBits::Absorbed, Some(injection))
+    session::told_with(units(16, 8, 4, 4), OneWayBits::Absorbed, Some(injection))
 }
 
-// Its operation, interruption, kind of progress (0 none, 1 bytes, 2 whole) and count.
+// Its operation, and the codes of its interruption and its progress.
 fn print_injection(rt: &impl Print, injection: Injection) -> io::Result<()> {
-    let (kind, count) = match injection.progress {
-        Progress::None => (0u32, 0),
-        Progress::Bytes(count) => (1, count),
-        Progress::Whole => (2, 0),
-    };
     let op = injection.op;
     let cause = injection.interruption as u8;
+    let kind = injection.progress.code();
+    let count = injection.progress.byte_count();
     print!(rt; "{op} {cause} {kind} {count}")
-}
-
-// How many operations are recorded, and the media.
-fn print_end(rt: &impl Print, operations: usize, media: &[u8]) -> io::Result<()> {
-    print!(rt; " {operations}")?;
-    for byte in media {
-        print!(rt; " {byte}")?;
-    }
-    Ok(())
 }
 
 fn print_refusal(rt: &impl Print, refusal: Refusal) -> io::Result<()> {
@@ -102,31 +84,68 @@ fn print_refusal(rt: &impl Print, refusal: Refusal) -> io::Result<()> {
     print!(rt; " {number}")
 }
 
-// The ledger's entries. What refuses a ledger would be its last number.
-fn print_ledger(
-    rt: &impl Print,
-    derived: Result<usize, Refusal>,
-    ledger: &LedgerMut<'_>,
-) -> io::Result<()> {
-    match derived {
-        Ok(entries) => {
-            let codes = ledger.states.iter().zip(ledger.torn.iter());
-            for (id, (state, torn)) in ledger.ids.iter().zip(codes).take(entries) {
-                print!(rt; " {id} {state} {torn}")?;
-            }
-            Ok(())
+// What the lines of a list tell of what its calls left.
+trait Tail {
+    fn print(
+        rt: &impl Print,
+        operations: usize,
+        media: &[u8],
+        derived: Result<usize, Refusal>,
+        ledger: &LedgerMut<'_>,
+    ) -> io::Result<()>;
+}
+
+// How many operations are recorded, and the media.
+struct Operations;
+
+impl Tail for Operations {
+    fn print(
+        rt: &impl Print,
+        operations: usize,
+        media: &[u8],
+        _derived: Result<usize, Refusal>,
+        _ledger: &LedgerMut<'_>,
+    ) -> io::Result<()> {
+        print!(rt; " {operations}")?;
+        for byte in media {
+            print!(rt; " {byte}")?;
         }
-        Err(refusal) => print_refusal(rt, refusal),
+        Ok(())
     }
 }
 
+// The ledger's entries. What refuses a ledger would be its last number.
+struct Entries;
+
+impl Tail for Entries {
+    fn print(
+        rt: &impl Print,
+        _operations: usize,
+        _media: &[u8],
+        derived: Result<usize, Refusal>,
+        ledger: &LedgerMut<'_>,
+    ) -> io::Result<()> {
+        match derived {
+            Ok(entries) => print_entries(rt, ledger, entries),
+            Err(refusal) => print_refusal(rt, refusal),
+        }
+    }
+}
+
+fn print_entries(rt: &impl Print, ledger: &LedgerMut<'_>, entries: usize) -> io::Result<()> {
+    let codes = ledger.states.iter().zip(ledger.torn.iter());
+    for (id, (state, torn)) in ledger.ids.iter().zip(codes).take(entries) {
+        print!(rt; " {id} {state} {torn}")?;
+    }
+    Ok(())
+}
+
 // The calls in turn, each with its answer, and what they left.
-fn run(
+fn run<T: Tail>(
     rt: &impl Print,
     told: Told,
     fresh: Counters,
     calls: &CallsRef<'_>,
-    marked: bool,
     media: &mut [u8],
     copy: &mut [u8],
     log: &mut LogMut<'_>,
@@ -155,57 +174,51 @@ fn run(
     for answer in answers.iter().take(ended.done) {
         print!(rt; " {answer}")?;
     }
-    if marked {
-        print_ledger(rt, derived, &ledger)
-    } else {
-        print_end(rt, ended.counters.operations, media)
-    }
+    T::print(rt, ended.counters.operations, media, derived, &ledger)
 }
 
 // What a line has after its injection. A refused start would be its number alone.
-fn one_session(rt: &impl Print, told: Told, calls: &CallsRef<'_>, marked: bool) -> io::Result<()> {
+fn one_session<T: Tail>(rt: &impl Print, told: Told, calls: &CallsRef<'_>) -> io::Result<()> {
     let mut media = [0u8; 16];
     let mut copy = [0u8; 16];
     let mut log = LogMut {
-        kinds: &mut [0u8; 1024],
-        offsets: &mut [0u32; 1024],
-        lens: &mut [0u32; 1024],
-        digests: &mut [0u64; 1024],
-        changed: &mut [0u8; 1024],
-        answered: &mut [0u8; 1024],
+        kinds: &mut [0u8; session::OPERATIONS],
+        offsets: &mut [0u32; session::OPERATIONS],
+        lens: &mut [0u32; session::OPERATIONS],
+        digests: &mut [0u64; session::OPERATIONS],
+        changed: &mut [0u8; session::OPERATIONS],
+        answered: &mut [0u8; session::OPERATIONS],
     };
     let mut marks = MarksMut {
-        codes: &mut [0u8; 512],
-        ids: &mut [0u32; 512],
-        places: &mut [0u64; 512],
+        codes: &mut [0u8; session::MARKS],
+        ids: &mut [0u32; session::MARKS],
+        places: &mut [0u64; session::MARKS],
     };
     match session_calls::start(told, &mut media, &copy, &log.seen(), &marks.seen()) {
-        Ok(fresh) => run(
-            rt, told, fresh, calls, marked, &mut media, &mut copy, &mut log, &mut marks,
+        Ok(fresh) => run::<T>(
+            rt, told, fresh, calls, &mut media, &mut copy, &mut log, &mut marks,
         ),
         Err(refusal) => print_refusal(rt, refusal),
     }
 }
 
 // One line: the injection, each call's answer, and what the calls left.
-fn one_case(
+fn one_case<T: Tail>(
     rt: &impl Print,
     injection: Injection,
     calls: &CallsRef<'_>,
-    marked: bool,
 ) -> io::Result<()> {
     print_injection(rt, injection)?;
-    one_session(rt, told_of(injection), calls, marked)?;
+    one_session::<T>(rt, told_of(injection), calls)?;
     rt.write_all(b"\n")
 }
 
 // A line for each injection on the operations up to the last given.
-fn lines(
+fn lines<T: Tail>(
     rt: &impl Print,
     last: usize,
     progresses: &[Progress; 6],
     calls: &CallsRef<'_>,
-    marked: bool,
 ) -> io::Result<()> {
     for op in 0..=last {
         for interruption in INTERRUPTIONS {
@@ -215,7 +228,7 @@ fn lines(
                     progress: *progress,
                     interruption,
                 };
-                one_case(rt, injection, calls, marked)?;
+                one_case::<T>(rt, injection, calls)?;
             }
         }
     }
@@ -224,6 +237,6 @@ fn lines(
 
 // Five operations, six in the second list, and one past the last.
 fn main(rt: HostRuntime) -> io::Result<()> {
-    lines(&rt, 5, &PROGRESSES, &CALLS, false)?;
-    lines(&rt, 6, &MARKED_PROGRESSES, &MARKED_CALLS, true)
+    lines::<Operations>(&rt, 5, &PROGRESSES, &CALLS)?;
+    lines::<Entries>(&rt, 6, &MARKED_PROGRESSES, &MARKED_CALLS)
 }

@@ -5,13 +5,14 @@
 // columns of different lengths, 13 for too little room.
 #![tactic(auto)]
 
-ghost use Rattle.std.specs.Prelude.{◌≡◌, length, set, get_or};
+ghost use Rattle.std.specs.Prelude.{◌≡◌, length, set};
 ghost use Rattle.basics.specs.Replies.{number_in, numbered};
 ghost use Rattle.refusals.specs.Numbers.{number_of};
 ghost use Rattle.session.specs.Lent.{log_seen};
 ghost use Rattle.session_entries.specs.Entries.{row_of, place_test, entry_at, moved_number, entries_number, to_entries};
 
-use refusals::Refusal;
+use basics::cell;
+use refusals::{Refusal, columns_refusal};
 use session::{Entry, LogRef};
 
 // The entry at an index, or 11 for an index outside.
@@ -21,7 +22,7 @@ pub fn read_entry(log: &[Entry], index: usize) -> Result<Entry, Refusal>
     log.get(index).copied().ok_or(Refusal::NoSuchPlace)
 }
 
-// Stores an entry at an index, or answers 11 for an index outside: then nothing is changed.
+// Stores an entry at an index, or is refused with 11 for an index outside: then nothing is changed. (By index, as `basics` `store`.)
 pub fn store_entry(log: &mut [Entry], index: usize, entry: Entry) -> Result<(), Refusal>
     ensures { (number_in number_of result ≡ place_test index (length log.old)) × (log.new ≡ set log.old index entry) }
 {
@@ -30,13 +31,6 @@ pub fn store_entry(log: &mut [Entry], index: usize, entry: Entry) -> Result<(), 
     }
     log[index] = entry;
     Ok(())
-}
-
-// A cell of a column; `none` past its end.
-fn cell<T: Copy>(cells: &[T], at: usize, none: T) -> T
-    ensures { result ≡ get_or cells.now at none }
-{
-    cells.get(at).copied().unwrap_or(none)
 }
 
 // A row of the columns as an entry; a column that ends before it gives 0.
@@ -58,22 +52,17 @@ fn row_of(log: &LogRef<'_>, index: usize) -> Entry
 pub fn moved_number(log: &LogRef<'_>, rows: usize, room: usize) -> Result<(), Refusal>
     ensures { number_in number_of result ≡ moved_number (log_seen log.now) rows room }
 {
-    if log.uneven() {
-        return Err(Refusal::MalformedColumns);
-    }
-    if room < rows {
-        return Err(Refusal::ColumnsTooShort);
-    }
-    Ok(())
+    columns_refusal(log.uneven(), room < rows)
 }
 
-// Hands a session's log on as entries: each row of the columns becomes the entry at its index. Answers 12 or 13 where they are
-// refused.
+// Hands a session's log on as entries: each row of the columns becomes the entry at its index. Refused with 12 or 13 as the
+// definition says.
 pub fn to_entries(log: &mut [Entry], from: &LogRef<'_>) -> Result<(), Refusal>
     ensures { (number_in number_of result ≡ entries_number (log_seen from.now) log.old) × (log.new ≡ to_entries (log_seen from.now) log.old) }
 {
     let rows = from.kinds.len();
     moved_number(from, rows, log.len())?;
+    // By index: a `zip` of six columns gives pairs in pairs, and of what one of `iter_mut` writes a proof knows the length alone.
     for index in 0..rows {
         log[index] = row_of(from, index);
     }

@@ -12,7 +12,7 @@ use refusals::Refusal;
 use session::{Entry, LogMut};
 use session_entries::moved_number;
 
-// Each entry is recorded in its row of the columns, as the session records an operation. Answers 12 or 13 where they are refused.
+// Each entry is recorded in its row of the columns, as the session records an operation. Refused with 12 or 13.
 pub fn to_columns(log: &[Entry], to: &mut LogMut<'_>) -> Result<(), Refusal>
     ensures same { SameLog to.old to.new }
     ensures left { (number_in number_of result ≡ columns_number log.now (log_in to.old)) × (log_in to.new ≡ to_columns log.now (log_in to.old)) }

@@ -1,6 +1,6 @@
 // Callers that have a log of entries in a local and lend it to `session_entries` and `session_entries_back`: for a caller without a
-// slice of entries, as `session_lent`'s `barrier_once` is for one without lent counters. Their parameters are columns, numbers and an
-// entry.
+// slice of entries, as `session_lent`'s `barrier_once` is for one without lent counters. Beside one entry they take a session's log in
+// columns.
 #![tactic(auto)]
 
 ghost use Rattle.std.specs.Prelude.{◌≡◌};
@@ -25,7 +25,7 @@ const NO_ENTRY: Entry = Entry {
     answered: 0,
 };
 
-// 11 where an index is outside so many rows.
+// 11 where an index is outside so many rows. (By `if`: `then_some(()).ok_or(..)` has to make an option of nothing first.)
 fn inside(index: usize, rows: usize) -> Result<(), Refusal>
     ensures { number_in number_of result ≡ place_test index rows }
 {
@@ -51,8 +51,8 @@ pub fn entry_with(log: &LogRef<'_>, at: usize, entry: Entry, index: usize) -> Re
     read_entry(&entries, index)
 }
 
-// Lays a log of 1,024 entries that starts with `entry` out in columns: the other 1,023 rows are 0, and rows past 1,024 stay. Answers
-// 12 or 13 where that is refused, and then nothing changes.
+// Lays a log of 1,024 entries that starts with `entry` out in columns: the other 1,023 rows are 0, and rows past 1,024 stay. Refused
+// with 12 or 13, and then nothing changes.
 pub fn start_with(entry: Entry, to: &mut LogMut<'_>) -> Result<(), Refusal>
     ensures same { SameLog to.old to.new }
     ensures left { (number_in number_of result ≡ columns_number (started_with entry) (log_in to.old)) × (log_in to.new ≡ to_columns (started_with entry) (log_in to.old)) }

@@ -17,23 +17,28 @@ use Rattle.session.specs.Replies.{Plan}
 use Rattle.session.specs.Log.{Log, logged}
 use Rattle.session.specs.Tests.{size_test, log_test, operation_test}
 use Rattle.session.specs.Armed.{Armed, armed_on, erase_lands, lands}
-use Rattle.session.specs.Written.{planned, planned_by, Landing, written}
+use Rattle.session.specs.Written.{planned, Landing, written}
 use Rattle.session.proofs.Writing.{lands-le as all-le, erase-lands, call-refused, call-taken, landed-so}
 use Rattle.session_erase.specs.Erase.{erase_number, erase_plan, erase_landing, erase_entry, erase_call}
 
 pub lands-le : (a : Armed) (len block : ℕ) → erase_lands a len block ≤ len
 lands-le a len block = rw (← erase-lands a len block) (all-le len block block a)
 
-module _ (t : Told) (c : Counters) (offset len : ℕ) (p : Plan)
-    (e : p ≡ planned_by c (armed_on t.armed c.operations) offset len (lands len t.geometry.erase_size t.geometry.erase_size)) where
-  -- the plan as the code makes it
-  pub plan-is : p ≡ erase_plan t c offset len
-  unfolding erase_plan
-  plan-is = e ∙ ap (planned c (armed_on t.armed c.operations) offset len) (erase-lands (armed_on t.armed c.operations) len t.geometry.erase_size)
-
+-- what is armed, how much lands and the plan, as the code makes them
+module _ (t : Told) (c : Counters) (offset len : ℕ) (a : Armed) (n : ℕ) (d : n ≡ lands len t.geometry.erase_size t.geometry.erase_size a) where
   -- no more lands than the length
-  pub plan-le : p.landed ≤ len
-  plan-le = rw e (all-le len t.geometry.erase_size t.geometry.erase_size (armed_on t.armed c.operations))
+  pub less : n ≤ len
+  less = rw d (all-le len t.geometry.erase_size t.geometry.erase_size a)
+
+  module _ (p : Plan) (f : a ≡ armed_on t.armed c.operations) (e : p ≡ planned c a offset len n) where
+    pub plan-is : p ≡ erase_plan t c offset len
+    unfolding erase_plan
+    plan-is =
+        e ∙ ap (planned c a offset len) (d ∙ erase-lands a len t.geometry.erase_size)
+        ∙ ap (λ (x : Armed). planned c x offset len (erase_lands x len t.geometry.erase_size)) f
+
+    pub plan-le : p.landed ≤ len
+    plan-le = rw e less
 
 -- a taken erase names a legal span
 pub erase-legal : (t : Told) (c : Counters) (offset len media copy log : ℕ) → erase_number t c offset len media copy log ≡ 0

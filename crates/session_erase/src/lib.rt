@@ -44,8 +44,8 @@ fn land_erase(media: &mut [u8], copy: &mut [u8], offset: u32, len: u32, landed: 
     changed
 }
 
-// Returns `offset..offset + len` to the erased state, as far as the armed injection lets it. The frame is that of a program,
-// and stays written twice: a closure for what lands would hide the order of the writes.
+// Returns `offset..offset + len` to the erased state, as far as the armed injection lets it. (As
+// `session_program` has it: one frame for both would take more arguments than it saves lines.)
 pub fn erase(
     told: Told,
     counters: Counters,
@@ -63,7 +63,9 @@ pub fn erase(
         return Called { answer, counters };
     }
     let block = told.geometry.erase_size;
-    let plan = session::write_plan(told, counters, offset, len, block, block);
+    let armed = session::armed_for(told.armed, counters.operations);
+    let landed = session::lands(armed, len, block, block);
+    let plan = session::planned(counters, armed, len, landed, offset + landed);
     let touched = land_erase(media, copy, offset, len, plan.landed);
     let entry = Entry {
         kind: 1,

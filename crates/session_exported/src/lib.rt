@@ -1,8 +1,9 @@
 // The layer `session` for callers in Rust or C, which tests/differential holds against the original Rust: numbers and lent
 // slices in, a number out. Each function takes the layer's values from numbers (`session_numbers`), makes one call, and gives the
 // answer as numbers, so that a comparison of the numbers is one of the layer. An answer is document 01's number, 0 where nothing
-// is refused and nothing was armed; the counters are put back after the call. A slice crosses as a pointer, then a length. The
-// marks are `session_marks_exported`.
+// is refused and nothing was armed; the counters are put back after the call. A slice crosses as a pointer, then a length,
+// so the log's columns cross one by one. The marks are `session_marks_exported`. (A function that
+// gives a value matches its answer for itself: the arms show what a refusal leaves.)
 #![tactic(auto)]
 
 ghost use Rattle.std.specs.Prelude.{◌≡◌, length};

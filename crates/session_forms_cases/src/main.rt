@@ -1,5 +1,5 @@
-// The two forms by reference, through callers with plain parameters, each of which has what it lends in a local. The device is
-// 16/8/4/4, with a power loss armed on the second operation, before it runs.
+// The two forms by reference, through callers that have what they lend in a local. The device is 16/8/4/4, with a power loss armed on
+// the second operation, before it runs.
 // Three lines of barriers on lent counters: the answer, the count of operations after it, and the first free or last written row:
 // kind, offset, length, digest, changed, answered. The first barrier answers 0 and acknowledges, the second is cut and answers 21,
 // the third is refused with 21 and changes nothing: its row is empty.
@@ -12,22 +12,14 @@
 // The Rust has no such forms, so the file `stdout` replays nothing: each line follows from document 01 and the sentences above.
 #![tactic(auto)]
 
-use basics::number_in;
+use basics::{Numbered, cell, number_in};
 use device::OneWayBits;
 use inject::{Injection, Interruption, Progress};
-use landing::Stop;
-use refusals::Refusal;
 use session::{Counters, Entry, LogMut, LogRef, Told};
 use std::io;
-use storage::Geometry;
 
 fn told() -> Told {
-    let geometry = Geometry {
-        capacity: 16,
-        erase_size: 8,
-        program_size: 4,
-        read_size: 4,
-    };
+    let geometry = storage::units(16, 8, 4, 4);
     let armed = Injection {
         op: 1,
         progress: Progress::None,
@@ -48,19 +40,15 @@ fn show_entry(rt: &impl Print, entry: Entry) -> io::Result<()> {
     print!(rt; "{kind} {offset} {len} {digest} {changed} {answered}\n")
 }
 
-// A cell of a column; 0 past its end.
-fn cell<T: Copy + Default>(cells: &[T], at: usize) -> T {
-    cells.get(at).copied().unwrap_or_default()
-}
-
+// (`session_entries` has this row as its own: public there, it would have two edits for one program that prints.)
 fn show_row(rt: &impl Print, log: &LogRef<'_>, index: usize) -> io::Result<()> {
     let row = Entry {
-        kind: cell(log.kinds, index),
-        offset: cell(log.offsets, index),
-        len: cell(log.lens, index),
-        digest: cell(log.digests, index),
-        changed: cell(log.changed, index),
-        answered: cell(log.answered, index),
+        kind: cell(log.kinds, index, 0),
+        offset: cell(log.offsets, index, 0),
+        len: cell(log.lens, index, 0),
+        digest: cell(log.digests, index, 0),
+        changed: cell(log.changed, index, 0),
+        answered: cell(log.answered, index, 0),
     };
     show_entry(rt, row)
 }
@@ -77,17 +65,6 @@ fn step(
     print!(rt; "{answer} {operations} ")?;
     show_row(rt, &log.seen(), index)?;
     Ok(called.counters)
-}
-
-fn fresh() -> Counters {
-    Counters {
-        operations: 0,
-        marks: 0,
-        stop: Stop::Running,
-        fired: false,
-        place: 0,
-        withheld: 0,
-    }
 }
 
 fn erased() -> Entry {
@@ -108,7 +85,7 @@ fn ask(rt: &impl Print, log: &LogRef<'_>, at: usize, index: usize) -> io::Result
             show_entry(rt, entry)
         }
         Err(refusal) => {
-            let number = number_in::<(), Refusal>(Err(refusal));
+            let number = refusal.number();
             print!(rt; "{number}\n")
         }
     }
@@ -184,7 +161,7 @@ fn run_session(rt: &impl Print) -> io::Result<()> {
         changed: &mut [0u8; 1024],
         answered: &mut [0u8; 1024],
     };
-    let first = step(rt, fresh(), &mut log, 0)?;
+    let first = step(rt, Counters::fresh(), &mut log, 0)?;
     let second = step(rt, first, &mut log, 1)?;
     step(rt, second, &mut log, 2)?;
     ask_all(rt, &log.seen())

@@ -6,7 +6,7 @@
 ghost use Rattle.std.specs.Prelude.{◌≡◌, [], ◌∷◌, ◌+◌, ◌≤◌};
 ghost use Rattle.basics.specs.Replies.{number_in};
 ghost use Rattle.refusals.specs.Numbers.{number_of};
-ghost use Rattle.session.specs.Log.{mark_of};
+ghost use Rattle.session.specs.Log.{mark_with};
 ghost use Rattle.session.specs.Lent.{marks_in, SameMarks};
 ghost use Rattle.session.specs.Replies.{told_as};
 ghost use Rattle.session.specs.Marks.{noted, noted_test, noting, noted_by, begun, ended, range_marked};
@@ -40,16 +40,16 @@ fn noted_by(counters: Counters, more: usize) -> Called
     }
 }
 
-// One mark at the operation count: its code is 1 for an id and 0 for "end".
-fn mark_one(counters: Counters, code: u8, id: u32, marks: &mut MarksMut<'_>) -> Called
+// One mark at the operation count: an id's, or an end.
+fn mark_one(counters: Counters, id: Option<u32>, marks: &mut MarksMut<'_>) -> Called
     ensures same { SameMarks marks.old marks.new }
-    ensures left { noted (told_as result) (marks_in marks.new) ≡ noted_by counters 1 (mark_of code id counters.operations ∷ []) (marks_in marks.old) }
+    ensures left { noted (told_as result) (marks_in marks.new) ≡ noted_by counters 1 (mark_with id counters.operations ∷ []) (marks_in marks.old) }
 {
     let answer = mark_refusal(counters, 1, marks);
     if answer.is_err() {
         return Called { answer, counters };
     }
-    marks.mark(counters.marks, code, id, counters.operations as u64);
+    marks.mark(counters.marks, id, counters.operations as u64);
     noted_by(counters, 1)
 }
 
@@ -58,7 +58,7 @@ pub fn begin_record(counters: Counters, id: u32, marks: &mut MarksMut<'_>) -> Ca
     ensures same { SameMarks marks.old marks.new }
     ensures left { noted (told_as result) (marks_in marks.new) ≡ begun counters id (marks_in marks.old) }
 {
-    mark_one(counters, 1, id, marks)
+    mark_one(counters, Some(id), marks)
 }
 
 // Declares that the operations from here on belong to no record: what follows a record's barrier must not fall inside it.
@@ -66,7 +66,7 @@ pub fn end_record(counters: Counters, marks: &mut MarksMut<'_>) -> Called
     ensures same { SameMarks marks.old marks.new }
     ensures left { noted (told_as result) (marks_in marks.new) ≡ ended counters (marks_in marks.old) }
 {
-    mark_one(counters, 0, 0, marks)
+    mark_one(counters, None, marks)
 }
 
 // Declares that the operations `from..to` belong to a record, after they have happened. Any two counts are taken.
@@ -85,7 +85,7 @@ pub fn mark_operations(
         return Called { answer, counters };
     }
     let first = counters.marks;
-    marks.mark(first, 1, id, from as u64);
-    marks.mark(first + 1, 0, 0, to as u64);
+    marks.mark(first, Some(id), from as u64);
+    marks.mark(first + 1, None, to as u64);
     noted_by(counters, 2)
 }

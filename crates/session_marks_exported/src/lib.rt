@@ -1,4 +1,5 @@
-// The session's marks for callers in Rust or C: numbers and lent slices in, a number out, as in `session_exported`.
+// The session's marks for callers in Rust or C: numbers and lent slices in, a number out, as in `session_exported`: the columns
+// cross one by one.
 #![tactic(auto)]
 
 ghost use Rattle.std.specs.Prelude.{◌≡◌};

@@ -5,56 +5,17 @@
 // decided one, and a number that is not there is 0 (specs/Numbers.antt).
 #![tactic(auto)]
 
-ghost use Rattle.std.specs.Prelude.{◌≡◌, get_or};
+ghost use Rattle.std.specs.Prelude.{◌≡◌};
 ghost use Rattle.session.specs.Replies.{told_as};
-ghost use Rattle.session_numbers.specs.Numbers.{rule_of, progress_of, interruption_of, armed_of, told_of, stop_of, low, counters_of, counters_in};
+ghost use Rattle.session_numbers.specs.Numbers.{armed_of, told_of, stop_of, low, counters_of, counters_in};
 
+use basics::{cell, store};
 use device::OneWayBits;
 use inject::{Injection, Interruption, Progress};
 use landing::Stop;
 use session::{Called, Counters, Told};
-use storage::Geometry;
-
-// The number at a place, and `none` past the end.
-fn number_at<T: Copy>(numbers: &[T], at: usize, none: T) -> T
-    ensures { result ≡ get_or numbers.now at none }
-{
-    numbers.get(at).copied().unwrap_or(none)
-}
 
 // ---- what the start was told
-
-// The bit rule of a number. (No `From`: neither the number nor the rule is a type of this crate.)
-fn rule_of(rule: u32) -> OneWayBits
-    ensures { result ≡ rule_of rule }
-{
-    match rule {
-        0 => OneWayBits::Absorbed,
-        _ => OneWayBits::Rejected,
-    }
-}
-
-// The progress of a kind and a byte count. (No `From` here either, nor of the two below.)
-fn progress_of(kind: u32, count: u32) -> Progress
-    ensures { result ≡ progress_of kind count }
-{
-    match kind {
-        0 => Progress::None,
-        1 => Progress::Bytes(count),
-        _ => Progress::Whole,
-    }
-}
-
-// The interruption of a number.
-fn interruption_of(cause: u32) -> Interruption
-    ensures { result ≡ interruption_of cause }
-{
-    match cause {
-        0 => Interruption::PowerLoss,
-        1 => Interruption::Watchdog,
-        _ => Interruption::Failure,
-    }
-}
 
 // What is armed.
 fn armed_of(armed: u32, op: u32, kind: u32, count: u32, cause: u32) -> Option<Injection>
@@ -65,8 +26,8 @@ fn armed_of(armed: u32, op: u32, kind: u32, count: u32, cause: u32) -> Option<In
     }
     Some(Injection {
         op: op as usize,
-        progress: progress_of(kind, count),
-        interruption: interruption_of(cause),
+        progress: Progress::of(kind, count),
+        interruption: Interruption::from(cause),
     })
 }
 
@@ -74,26 +35,27 @@ fn armed_of(armed: u32, op: u32, kind: u32, count: u32, cause: u32) -> Option<In
 pub fn told_of(told: &[u32]) -> Told
     ensures { result ≡ told_of told.now }
 {
-    let geometry = Geometry {
-        capacity: number_at(told, 0, 0),
-        erase_size: number_at(told, 1, 0),
-        program_size: number_at(told, 2, 0),
-        read_size: number_at(told, 3, 0),
-    };
-    let bits = rule_of(number_at(told, 4, 0));
+    let geometry = storage::units(
+        cell(told, 0, 0),
+        cell(told, 1, 0),
+        cell(told, 2, 0),
+        cell(told, 3, 0),
+    );
+    let bits = OneWayBits::from(cell(told, 4, 0));
     let armed = armed_of(
-        number_at(told, 5, 0),
-        number_at(told, 6, 0),
-        number_at(told, 7, 0),
-        number_at(told, 8, 0),
-        number_at(told, 9, 0),
+        cell(told, 5, 0),
+        cell(told, 6, 0),
+        cell(told, 7, 0),
+        cell(told, 8, 0),
+        cell(told, 9, 0),
     );
     session::told_with(geometry, bits, armed)
 }
 
 // ---- the counters
 
-// The stop of a number.
+// The stop of a number. (Here, and no `From` in `landing`: a stop has no code of its own; 21 and 22 are its
+// refusal's numbers, by which this boundary tells it.)
 fn stop_of(number: u64) -> Stop
     ensures { result ≡ stop_of number }
 {
@@ -116,12 +78,12 @@ pub fn counters_of(state: &[u64]) -> Counters
     ensures { result ≡ counters_of state.now }
 {
     Counters {
-        operations: number_at(state, 0, 0) as usize,
-        marks: number_at(state, 1, 0) as usize,
-        stop: stop_of(number_at(state, 2, 0)),
-        fired: number_at(state, 3, 0) != 0,
-        place: low_of(number_at(state, 4, 0)),
-        withheld: low_of(number_at(state, 5, 0)),
+        operations: cell(state, 0, 0) as usize,
+        marks: cell(state, 1, 0) as usize,
+        stop: stop_of(cell(state, 2, 0)),
+        fired: cell(state, 3, 0) != 0,
+        place: low_of(cell(state, 4, 0)),
+        withheld: low_of(cell(state, 5, 0)),
     }
 }
 
@@ -130,15 +92,15 @@ pub fn keep(state: &mut [u64], counters: Counters)
     ensures { state.new ≡ counters_in counters state.old }
 {
     let stopped = basics::number_in(counters.stop.refusal());
-    basics::store(state, 0, counters.operations as u64);
-    basics::store(state, 1, counters.marks as u64);
-    basics::store(state, 2, stopped as u64);
-    basics::store(state, 3, counters.fired as u64);
-    basics::store(state, 4, counters.place as u64);
-    basics::store(state, 5, counters.withheld as u64);
+    store(state, 0, counters.operations as u64);
+    store(state, 1, counters.marks as u64);
+    store(state, 2, stopped as u64);
+    store(state, 3, counters.fired as u64);
+    store(state, 4, counters.place as u64);
+    store(state, 5, counters.withheld as u64);
 }
 
-// Puts a reply's counters back, and gives document 01's number of what it answers, 0 where nothing is refused.
+// Puts a reply's counters back, and gives document 01's number of what it answers, 0 where nothing is refused. (A number: it goes to C.)
 pub fn put_back(state: &mut [u64], called: Called) -> u32
     ensures { (result ≡ (told_as called).answer) × (state.new ≡ counters_in called.counters state.old) }
 {

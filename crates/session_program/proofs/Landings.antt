@@ -19,7 +19,7 @@ use Rattle.session.specs.declared.Told.{Told}
 use Rattle.session.specs.declared.Counters.{Counters}
 use Rattle.session.specs.Replies.{Plan}
 use Rattle.session.specs.Armed.{Armed, armed_on, program_lands, lands}
-use Rattle.session.specs.Written.{planned, planned_by, Landing}
+use Rattle.session.specs.Written.{planned, Landing}
 use Rattle.session.proofs.Writing.{lands-le as all-le, program-lands}
 use Rattle.session_program.specs.Program.{program_plan, program_landing}
 
@@ -27,15 +27,20 @@ use Rattle.session_program.specs.Program.{program_plan, program_landing}
 pub lands-le : (a : Armed) (len unit : ℕ) → program_lands a len unit ≤ len
 lands-le a len unit = rw (← program-lands a len unit) (all-le len 1 unit a)
 
-module _ (t : Told) (c : Counters) (offset len : ℕ) (p : Plan)
-    (e : p ≡ planned_by c (armed_on t.armed c.operations) offset len (lands len 1 t.geometry.program_size)) where
-  -- the plan as the code makes it
-  pub plan-is : p ≡ program_plan t c offset len
-  unfolding program_plan
-  plan-is = e ∙ ap (planned c (armed_on t.armed c.operations) offset len) (program-lands (armed_on t.armed c.operations) len t.geometry.program_size)
+-- what is armed, how much lands and the plan, as the code makes them
+module _ (t : Told) (c : Counters) (offset len : ℕ) (a : Armed) (n : ℕ) (d : n ≡ lands len 1 t.geometry.program_size a) where
+  pub less : n ≤ len
+  less = rw d (all-le len 1 t.geometry.program_size a)
 
-  pub plan-le : p.landed ≤ len
-  plan-le = rw e (all-le len 1 t.geometry.program_size (armed_on t.armed c.operations))
+  module _ (p : Plan) (f : a ≡ armed_on t.armed c.operations) (e : p ≡ planned c a offset len n) where
+    pub plan-is : p ≡ program_plan t c offset len
+    unfolding program_plan
+    plan-is =
+        e ∙ ap (planned c a offset len) (d ∙ program-lands a len t.geometry.program_size)
+        ∙ ap (λ (x : Armed). planned c x offset len (program_lands x len t.geometry.program_size)) f
+
+    pub plan-le : p.landed ≤ len
+    plan-le = rw e less
 
 -- a slice's end, as the code lends it
 pub lent-end : (xs : List ℕ) (start : ℕ) → take (length xs - start) (drop start xs) ≡ drop start xs

@@ -19,7 +19,9 @@ use refusals::Refusal;
 use session::{Called, Counters, Entry, LogMut, Told};
 use storage::GeometryError;
 
-// The geometry's answer: 1 to 3, then 6 for a buffer longer than u32, then the span's 4, 5 and 6.
+// The geometry's answer: 1 to 3, then 6 for a buffer longer than u32, then the span's 4, 5 and 6. (The
+// first two lines are `device_calls` `counted`, which is private: to share it takes a definition, a public promise and two edits, for a
+// line less here.)
 fn span_refusal(told: Told, offset: u32, bytes: usize) -> Result<(), GeometryError>
     ensures { number_in geometry_number result ≡ span_number told offset bytes }
 {
@@ -75,8 +77,8 @@ fn land_program(media: &mut [u8], copy: &mut [u8], offset: u32, bytes: &[u8], la
     device::apply_program(media, offset, &bytes[..count])
 }
 
-// Writes `bytes` at `offset`, as far as the armed injection lets it. The frame is that of an erase,
-// and stays written twice: a closure for what lands would hide the order of the writes.
+// Writes `bytes` at `offset`, as far as the armed injection lets it. What it shares with an erase are six calls
+// of `session`; one frame for both would take the refusal, the kind, the digest, the step, the unit and a closure that writes both buffers.
 pub fn program(
     told: Told,
     counters: Counters,
@@ -94,7 +96,9 @@ pub fn program(
         return Called { answer, counters };
     }
     let len = bytes.len() as u32;
-    let plan = session::write_plan(told, counters, offset, len, 1, told.geometry.program_size);
+    let armed = session::armed_for(told.armed, counters.operations);
+    let landed = session::lands(armed, len, 1, told.geometry.program_size);
+    let plan = session::planned(counters, armed, len, landed, offset + landed);
     let touched = land_program(media, copy, offset, bytes, plan.landed);
     let entry = Entry {
         kind: 0,

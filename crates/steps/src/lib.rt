@@ -21,8 +21,8 @@ pub struct Row {
     pub start: u32,
 }
 
-// One row. A kind above 5 has no meaning: it is refused with 12, and nothing changes. The log and the marks are lent apart: behind one
-// struct of both, a caller's proof no longer tells what became of its own columns.
+// One row. A kind above 5 has no meaning: it is refused with 12, and nothing changes. The media, the copy, the log and the marks are
+// lent apart, as document 01's calls take them: each kind's call takes others of the four.
 pub fn step(
     told: Told,
     counters: Counters,
@@ -37,6 +37,8 @@ pub fn step(
     ensures same_marks { SameMarks marks.old marks.new }
     ensures left { answered_of (told_as result) media.new copy.new (log_in log.new) (marks_in marks.new) ≡ step_answered told (session_of counters media.old copy.old (log_in log.old) (marks_in marks.old)) (task_from row.kind row.first row.second row.third row.start pool.now) }
 {
+    // By its code, since a row of document 01's list of calls is numbers: an enum would be made by this same switch, and read by
+    // another.
     match row.kind {
         0 => {
             // the bytes that the pool has

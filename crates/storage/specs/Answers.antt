@@ -16,7 +16,7 @@ number_of MisalignedOffset = 4
 number_of MisalignedLength = 5
 number_of OutOfBounds = 6
 
--- the error with a number; `numbered` in proofs/Numbers.antt: number_of (error_of n) is n for each n from 1 to 6
+-- the error with a number; `numbered` of proofs/Numbers.antt: `number_of (error_of n)` is n for each n from 1 to 6
 abbrev pub error_of : ℕ → GeometryError
 error_of n =
     cond (eqb n 1) ZeroUnit

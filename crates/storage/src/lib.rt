@@ -1,7 +1,8 @@
 // The storage contract's geometry: the four units that a device is described by, and which spans a call may name.
 // Follows waymaker-flash's storage.rs. Where the Rust keeps a Geometry's fields private, so that only `new` can make one,
 // here anybody can: each function checks the four units first, and a Geometry that describes no device gets its number
-// 1 to 3, whatever else is asked. Every contract holds for every u32.
+// 1 to 3, whatever else is asked. Every contract holds for every u32. An offset and a length stay two numbers, as in the Rust: a span
+// that one unit allows another forbids, so a struct of both would promise nothing.
 #![tactic(auto)]
 
 ghost use Rattle.std.specs.Prelude.{◌≡◌, true, ◌%◌, eqb};
@@ -43,6 +44,18 @@ pub enum GeometryError {
     OutOfBounds,
 }
 
+// The geometry of four units, as they come: whether they describe a device is tested by each function that asks something of it.
+pub fn units(capacity: u32, erase_size: u32, program_size: u32, read_size: u32) -> Geometry
+    ensures { result ≡ geometry_of capacity erase_size program_size read_size }
+{
+    Geometry {
+        capacity,
+        erase_size,
+        program_size,
+        read_size,
+    }
+}
+
 // Whether a value is a multiple of a unit. A unit that is a power of two has its multiples told by a mask.
 fn is_multiple(value: u32, unit: u32) -> bool
     requires { one_bit unit ≡ true }
@@ -63,12 +76,7 @@ impl Geometry {
     ) -> Result<Geometry, GeometryError>
         ensures { numbered number_of result ≡ described (geometry_of capacity erase_size program_size read_size) }
     {
-        let geometry = Geometry {
-            capacity,
-            erase_size,
-            program_size,
-            read_size,
-        };
+        let geometry = units(capacity, erase_size, program_size, read_size);
         geometry.check()?;
         Ok(geometry)
     }
@@ -85,10 +93,10 @@ impl Geometry {
         if (capacity == 0) | (erase == 0) | (program == 0) | (read == 0) {
             return Err(GeometryError::ZeroUnit);
         }
-        let erase_ones = u32::count_ones(erase);
-        let program_ones = u32::count_ones(program);
-        let read_ones = u32::count_ones(read);
-        if (erase_ones != 1) | (program_ones != 1) | (read_ones != 1) {
+        let erase_power = erase.is_power_of_two();
+        let program_power = program.is_power_of_two();
+        let read_power = read.is_power_of_two();
+        if !erase_power | !program_power | !read_power {
             return Err(GeometryError::UnitIsNotAPowerOfTwo);
         }
         let whole_blocks = is_multiple(capacity, erase);
@@ -157,7 +165,7 @@ impl Numbered for GeometryError {
 
     ghost nonzero = { error-nonzero };
 
-    // Document 01's number of the error, 1 to 6.
+    // Document 01's number of the error, 1 to 6: the one place where it gets it.
     fn number(self) -> u32 {
         match self {
             GeometryError::ZeroUnit => 1,

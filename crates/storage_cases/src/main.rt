@@ -4,8 +4,6 @@
 // The tables and the order of the cases are those of `sample` in tests/differential/src/storage.rs.
 #![tactic(auto)]
 
-ghost use Rattle.std.specs.Prelude.{◌<◌};
-
 use basics::number_in;
 use std::io;
 use storage::Geometry;
@@ -34,15 +32,7 @@ fn print_units(rt: &impl Print, geometry: Geometry) -> io::Result<()> {
 }
 
 // Four units, what `new` refuses them with, and the number of erase blocks, 0 where they are refused.
-fn geometry_case(rt: &impl Print, place: usize) -> io::Result<()>
-    requires { place < 1728 }
-{
-    let geometry = Geometry {
-        capacity: CAPACITIES[place / 216],
-        erase_size: UNITS[place / 36 % 6],
-        program_size: UNITS[place / 6 % 6],
-        read_size: UNITS[place % 6],
-    };
+fn geometry_case(rt: &impl Print, geometry: Geometry) -> io::Result<()> {
     print_units(rt, geometry)?;
     let made = Geometry::new(
         geometry.capacity,
@@ -56,18 +46,7 @@ fn geometry_case(rt: &impl Print, place: usize) -> io::Result<()>
 }
 
 // Four units, a span, and what refuses it as a read, as a program and as an erase.
-fn span_case(rt: &impl Print, place: usize) -> io::Result<()>
-    requires { place < 484 }
-{
-    let [capacity, erase_size, program_size, read_size] = DEVICES[place / 121];
-    let geometry = Geometry {
-        capacity,
-        erase_size,
-        program_size,
-        read_size,
-    };
-    let offset = SPANS[place / 11 % 11];
-    let len = SPANS[place % 11];
+fn span_case(rt: &impl Print, geometry: Geometry, offset: u32, len: u32) -> io::Result<()> {
     print_units(rt, geometry)?;
     let read = number_in(geometry.validate_read(offset, len));
     let program = number_in(geometry.validate_program(offset, len));
@@ -75,12 +54,34 @@ fn span_case(rt: &impl Print, place: usize) -> io::Result<()>
     println!(rt; "{offset} {len} {read} {program} {erase}")
 }
 
-fn main(rt: HostRuntime) -> io::Result<()> {
-    for place in 0..1728 {
-        geometry_case(&rt, place)?;
+// A capacity with every three units.
+fn geometry_cases(rt: &impl Print, capacity: u32) -> io::Result<()> {
+    for erase in UNITS {
+        for program in UNITS {
+            for read in UNITS {
+                geometry_case(rt, storage::units(capacity, erase, program, read))?;
+            }
+        }
     }
-    for place in 0..484 {
-        span_case(&rt, place)?;
+    Ok(())
+}
+
+// A device with every span.
+fn span_cases(rt: &impl Print, geometry: Geometry) -> io::Result<()> {
+    for offset in SPANS {
+        for len in SPANS {
+            span_case(rt, geometry, offset, len)?;
+        }
+    }
+    Ok(())
+}
+
+fn main(rt: HostRuntime) -> io::Result<()> {
+    for capacity in CAPACITIES {
+        geometry_cases(&rt, capacity)?;
+    }
+    for [capacity, erase, program, read] in DEVICES {
+        span_cases(&rt, storage::units(capacity, erase, program, read))?;
     }
     Ok(())
 }

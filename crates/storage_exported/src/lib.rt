@@ -1,7 +1,8 @@
 // The layer `storage` for callers in Rust or C, which tests/differential holds against the original Rust: numbers and lent
 // slices in, a number out. Each function takes the layer's values from numbers, makes one call, and gives the answer as
 // numbers, so that a comparison of the numbers is one of the layer: a geometry is its four units, an answer is document 01's
-// number, 0 where nothing is refused. A slice crosses as a pointer, then a length.
+// number, 0 where nothing is refused. A slice crosses as a pointer, then a length. (Where an answer has a value, each function matches
+// for itself: its arms show what a refusal leaves. Three names of C validate, so three functions do.)
 #![tactic(auto)]
 
 ghost use Rattle.std.specs.Prelude.{◌≡◌};
@@ -11,18 +12,6 @@ ghost use Rattle.storage_exported.specs.Storage.{units_in, kept_of, blocks_over}
 
 use basics::{Numbered, number_in, store};
 use storage::Geometry;
-
-// The geometry of four units.
-fn units(capacity: u32, erase: u32, program: u32, read: u32) -> Geometry
-    ensures { result ≡ geometry_of capacity erase program read }
-{
-    Geometry {
-        capacity,
-        erase_size: erase,
-        program_size: program,
-        read_size: read,
-    }
-}
 
 // Puts the four units into the first four places.
 fn keep(kept: &mut [u32], geometry: Geometry)
@@ -67,7 +56,7 @@ pub extern "C" fn storage_erase_blocks(
 ) -> u32
     ensures { (result ≡ geometry_test (geometry_of capacity erase program read)) × (blocks.new ≡ blocks_over (geometry_of capacity erase program read) blocks.old) }
 {
-    let geometry = units(capacity, erase, program, read);
+    let geometry = storage::units(capacity, erase, program, read);
     match geometry.erase_blocks() {
         Ok(count) => {
             *blocks = count;
@@ -89,7 +78,7 @@ pub extern "C" fn storage_validate_read(
 ) -> u32
     ensures { result ≡ read_test (geometry_of capacity erase program read) offset len }
 {
-    let geometry = units(capacity, erase, program, read);
+    let geometry = storage::units(capacity, erase, program, read);
     number_in(geometry.validate_read(offset, len))
 }
 
@@ -105,7 +94,7 @@ pub extern "C" fn storage_validate_program(
 ) -> u32
     ensures { result ≡ program_test (geometry_of capacity erase program read) offset len }
 {
-    let geometry = units(capacity, erase, program, read);
+    let geometry = storage::units(capacity, erase, program, read);
     number_in(geometry.validate_program(offset, len))
 }
 
@@ -121,6 +110,6 @@ pub extern "C" fn storage_validate_erase(
 ) -> u32
     ensures { result ≡ erase_test (geometry_of capacity erase program read) offset len }
 {
-    let geometry = units(capacity, erase, program, read);
+    let geometry = storage::units(capacity, erase, program, read);
     number_in(geometry.validate_erase(offset, len))
 }

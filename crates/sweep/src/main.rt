@@ -4,6 +4,7 @@
 
 use printing::ENOUGH;
 
+// (`judge` has these lines but for the program, and says why.)
 fn main(rt: HostRuntime) {
     let mut text = [0u8; ENOUGH];
     let mut input = rt.stdin();

@@ -1,6 +1,6 @@
 // What stands before the entries in a run's line of `sweep` (document 01, "Scripts and the two programs"): its place, its
-// injection's kind, index and progress, the session's stop and the operations recorded. It is written into a buffer that the
-// caller lends, and measured. Each promise is an equation with a definition of specs/.
+// injection's kind, index and progress, the session's stop and the operations recorded. It is written at a lent `Cursor`, and
+// measured. Each promise is an equation with a definition of specs/.
 #![tactic(auto)]
 
 ghost use Rattle.std.specs.Prelude.{◌≡◌};
@@ -14,6 +14,7 @@ use inject::{Injection, Interruption, Progress};
 use landing::Stop;
 use pieces::Cursor;
 
+// (The letters here stand for themselves: they are no codes of the enums, which a conversion would make them.)
 fn letter_of(interruption: Interruption) -> u8
     ensures { result ≡ letter_of interruption }
 {
@@ -84,7 +85,8 @@ fn stop_letter(stop: Stop) -> u8
     }
 }
 
-// What stands before the entries: place, kind, index, progress, stop and operations.
+// What stands before the entries: place, kind, index, progress, stop and operations. (No struct of the four: `sweep_line` alone calls
+// both, and would make one to be taken apart.)
 pub fn put_head(
     place: u64,
     armed: Option<Injection>,

@@ -1,6 +1,5 @@
--- An entry's field: its letters, what is written for it, and how long it is; and a loop's turn over the rows of a ledger.
+-- An entry's field: what is written for it, and how long it is; and a loop's turn over the rows of a ledger.
 --     torn-flag                        what two codes say
---     state-0, state-1, state-2        a state's letter
 --     entry-torn, entry_whole          what is written for an entry
 --     size-torn, size-whole            how long it is
 --     rows-put, rows-put-end           a turn of the loop that writes entries, and its end
@@ -15,7 +14,6 @@ use native.Mathlib.Nat.{suc-ne-zero}
 use native.Mathlib.Omega.{arith}
 use lib.ListN.{length, length-append}
 use lib.Dec.{eqb}
-use borrow.Author.Tests.{eq-eqb, ne_eqb}
 use Rattle.model.specs.Columns.{state_of, entry_of, ledger_of}
 use Rattle.model.specs.Ledger.{is_torn}
 use Rattle.model.proofs.Rows.{torn-row}
@@ -32,15 +30,6 @@ use Rattle.sweep_lines.specs.Fields.{entry_pieces, ledger_pieces}
 
 pub torn-flag : (s t : ℕ) → (not (eqb s 0) && eqb t 1) ≡ is_torn (entry_of 0 s t)
 torn-flag s t = sym (torn-row 0 s t)
-
-pub state-0 : (s : ℕ) → s ≡ 0 → 97 ≡ state_letter (state_of s)
-state-0 s z = simp (eq-eqb _ _ z)
-
-pub state-1 : (s : ℕ) → (s ≡ 0 → ⊥) → s ≡ 1 → 100 ≡ state_letter (state_of s)
-state-1 s n z = simp (ne_eqb _ _ n, eq-eqb _ _ z)
-
-pub state-2 : (s : ℕ) → (s ≡ 0 → ⊥) → (s ≡ 1 → ⊥) → 107 ≡ state_letter (state_of s)
-state-2 s n m = simp (ne_eqb _ _ n, ne_eqb _ _ m)
 
 -- ---- what is written for an entry
 
@@ -117,4 +106,4 @@ module _ (is ss ts : List ℕ) (e : ((length is ≡ 0) ⊎ (length ss ≡ 0)) �
   unfolding flatten
   rows-size-end = ap (λ (ps : List (List ℕ)). length (flatten ps)) (rows-none is ss ts e)
 
-pub ruleset entries = (torn-flag, state-0, state-1, state-2, entry-torn, entry_whole, size-torn, size-whole)
+pub ruleset entries = (torn-flag, entry-torn, entry_whole, size-torn, size-whole)

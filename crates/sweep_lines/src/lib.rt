@@ -1,13 +1,12 @@
-// A run's line of `sweep`, written into a buffer that the caller lends (document 01, "Scripts and the two programs"): what
-// stands before the entries (`sweep_heads`), and a field for each entry. The ledger comes as `model`'s three columns, and
-// columns that hold none are refused with 12. The line is measured before it is written, so that one which does not fit from
-// the place where it should start is refused with 13. A refusal changes nothing. The promise is an equation with a definition
-// of specs/.
+// A run's line of `sweep`, written at a lent `Cursor` (document 01, "Scripts and the two programs"): what stands before the entries
+// (`sweep_heads`), and a field for each entry. The ledger comes as `model`'s `LedgerRef`, and one whose columns hold none is refused
+// with 12. The line is measured before it is written, so that one which does not fit from the place where it should start is refused
+// with 13. A refusal changes nothing. What the line is and where it goes is an equation with a definition of specs/.
 #![tactic(auto)]
 
 ghost use Rattle.std.specs.Prelude.{◌≡◌, ◌+◌, length, leb, IsErr};
 ghost use mathlib.Core.List.{flatten};
-ghost use Rattle.model.specs.Columns.{state_of, entry_of, ledger_of};
+ghost use Rattle.model.specs.Columns.{entry_of, ledger_of};
 ghost use Rattle.model.specs.Ledger.{is_torn};
 ghost use Rattle.pieces.specs.Pieces.{after_all};
 ghost use Rattle.pieces.specs.Cursors.{cursor_in, SameOut};
@@ -19,7 +18,7 @@ ghost use Rattle.sweep_lines.specs.Fields.{entry_pieces, ledger_pieces};
 
 use inject::Injection;
 use landing::Stop;
-use model::LedgerRef;
+use model::{Durability, LedgerRef};
 use pieces::{Cursor, fits};
 use refusals::Refusal;
 use sweep_heads::{head_size, put_head};
@@ -27,21 +26,23 @@ use text::LF;
 
 // ---- entries
 
-fn state_letter(state: u8) -> u8
-    ensures { result ≡ state_letter (state_of state) }
+// (A letter of the line, and no code of the enum.)
+fn state_letter(state: Durability) -> u8
+    ensures { result ≡ state_letter state }
 {
     match state {
-        0 => b'a',
-        1 => b'd',
-        _ => b'k',
+        Durability::Attempted => b'a',
+        Durability::PossiblyDurable => b'd',
+        Durability::Acknowledged => b'k',
     }
 }
 
-// Torn is dropped where the state is attempted.
+// Torn is dropped where the state is attempted. (By the codes, as the columns hold them: a struct of a row would be made at each turn of
+// two loops and taken apart here.)
 fn is_torn(state: u8, torn: u8) -> bool
     ensures { result ≡ is_torn (entry_of 0 state torn) }
 {
-    state != 0 && torn == 1
+    state != Durability::Attempted as u8 && torn == 1
 }
 
 fn put_entry(id: u32, state: u8, torn: u8, to: &mut Cursor<'_>)
@@ -49,7 +50,7 @@ fn put_entry(id: u32, state: u8, torn: u8, to: &mut Cursor<'_>)
     ensures put { cursor_in to.new ≡ after_all (entry_pieces (entry_of id state torn)) (cursor_in to.old) }
 {
     to.put_field(id as u64);
-    to.put_byte(state_letter(state));
+    to.put_byte(state_letter(Durability::from(state)));
     if is_torn(state, torn) {
         to.put_byte(b't');
     }
@@ -75,8 +76,9 @@ fn put_entries(ledger: &LedgerRef<'_>, to: &mut Cursor<'_>)
     }
 }
 
-// Whether a line of `size` bytes and the entries' fields fits. What is left of the room is carried, so that no sum can wrap.
-// `lines` has the same loop over one column of ids: a trait for what both walk would be longer than the two loops.
+// Whether a line of `size` bytes and the entries' fields fits. What is left of the room is carried, so that no sum can wrap. (`lines`
+// has this loop and the one above over ids: one loop for both would need a trait for a row's pieces and their size, two
+// implementations, and a promise about any iterator of rows.)
 fn entries_fit(ledger: &LedgerRef<'_>, size: usize, at: usize, room: usize) -> bool
     ensures { result ≡ leb (at + size + length (flatten (ledger_pieces (ledger_of ledger.now.ids.now ledger.now.states.now ledger.now.torn.now)))) room }
 {

@@ -22,7 +22,8 @@ pub fn places(n: u64) -> usize
     }
 }
 
-// Writes a number's digits, the last one first, over a buffer that has one place for each.
+// Writes a number's digits, the last one first, over a buffer that has one place for each. (By index: of what `iter_mut` wrote a proof knows
+// the length alone.)
 fn spell(n: u64, digits: &mut [u8])
     requires { length digits.old ≡ length (decimal_of n) }
     ensures { digits.new ≡ decimal_of n }
@@ -35,7 +36,7 @@ fn spell(n: u64, digits: &mut [u8])
 }
 
 // Writes a number in decimal, without leading zeros, from `at` on, and answers the place past it. Where it does not fit
-// nothing is written.
+// nothing is written. (At a place of a lent buffer: `pieces` `Cursor` is built on it, and no heap holds a text to copy from.)
 pub fn print_number(n: u64, out: &mut [u8], at: usize) -> Option<usize>
     ensures { ◌≡◌ {A = Print} (record { reply = result; out = out.new }) (printed_at n at out.old) }
 {

@@ -16,14 +16,11 @@ use borrow.Author.Tests.{leb-true, leb-false, le-leb, lt-leb, lt-ltb, le-ltb, ne
 use Rattle.basics.specs.Tests.{unless, first_of}
 use Rattle.basics.specs.Parts.{overlaid}
 use Rattle.std.specs.Prelude.{Err as NotWritten}
-use Rattle.lines.specs.Answers.{put}
+use Rattle.lines.specs.Answers.{put, Put}
 use Rattle.pieces.proofs.Cursors.{overlaid-none, length-overlaid, overlaid-more}
 use Rattle.text_of_runs.specs.Claim.{run_lines}
 use Rattle.text_of_runs.proofs.Short.{put-past}
-use Rattle.lines.specs.Answers.{Put}
-use Rattle.text_parts.specs.Parts.{Part}
-use Rattle.text_parts.specs.Parts.{Lines, NoRoom}
-use Rattle.text_parts.specs.Parts.{fitting, PartLeft, part_left, part_of}
+use Rattle.text_parts.specs.Parts.{Part, Lines, NoRoom, fitting, PartLeft, part_left, part_of}
 use Rattle.text_parts.specs.Inner.{FillLeft, filled_at, fill_runs, part_reply}
 use Rattle.text_parts.proofs.Fills.{fill_on, fill_stop}
 

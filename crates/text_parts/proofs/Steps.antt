@@ -2,7 +2,7 @@
 --     first-is, first_some                    the part that begins with the count of runs
 --     past_all, from_first, from-run          the part of a sweep, past its end, from the count or from a run on
 --     refused-past, refused-is, refused-some  the part of a refused script
---     open-part, open-zeros                   the fault-free run, on a part of the media and on columns of zeros
+--     open-part                               the fault-free run, on a part of columns of zeros
 --     recorded-is                             the runs, by the operations recorded
 --     opened-refused, opened-runs, swept-is   a sweep that is refused, or its runs
 --     read-refused, read-swept                a script that is refused, or its sweep
@@ -13,7 +13,7 @@ use mathlib.Core.List.{List, [], ◌∷◌, ◌++◌, append-nil, flatten}
 use Prim.Native.Nat.{ℕ, zero, suc, ◌+◌, ◌-◌, ◌≤◌, ◌<◌, min}
 use native.Mathlib.Nat.{zero-add}
 use native.Mathlib.Omega.{arith}
-use lib.ListN.{length, take, drop, replicate}
+use lib.ListN.{length, take, drop, replicate, length-replicate}
 use lib.Dec.{leb}
 use borrow.Author.Tests.{lt-ltb, le-ltb, eq-eqb, ne_eqb, leb-true, leb-false}
 use Rattle.basics.proofs.Lists.{take-few}
@@ -24,20 +24,15 @@ use Rattle.script.specs.declared.Script.{Script}
 use Rattle.script.specs.declared.ScriptError.{ScriptError}
 use Rattle.script.specs.Lent.{reply_of}
 use Rattle.script.specs.Columns.{Columns, columns, After, after, read_into}
-use Rattle.lines.specs.Answers.{Line}
+use Rattle.lines.specs.Answers.{Line, Put, put}
 use Rattle.std.specs.Prelude.{Result, Ok, Err, Ok as Past, Err as NotWritten}
 use Rattle.lines.specs.Lines.{runs_line, refused_text}
-use Rattle.lines.specs.Answers.{Put, put}
 use Rattle.harness.specs.declared.Sweep.{Sweep}
-use Rattle.harness.specs.Opening.{Opened, opened_as}
+use Rattle.harness.specs.Opening.{Opened, opened_as, open_left, open_call, open_on}
 use Rattle.harness_runs.specs.Running.{zeros, cells}
-use Rattle.harness.specs.Opening.{open_left, open_call, open_on}
-use Rattle.lines.specs.Answers.{Put}
 use Rattle.run_lines.specs.RunLine.{run_put, run_line_call}
 use Rattle.text_of_runs.proofs.Short.{put-past}
-use Rattle.text_parts.specs.Parts.{Part}
-use Rattle.text_parts.specs.Parts.{Lines, NoRoom}
-use Rattle.text_parts.specs.Parts.{PartLeft, part_left, fitting, part_of}
+use Rattle.text_parts.specs.Parts.{Part, Lines, NoRoom, PartLeft, part_left, fitting, part_of}
 use Rattle.text_parts.specs.Inner.{filled_at, fill_runs, part_reply, part_after, part_first, first_part, runs_part, runs_of, refused_part, OpenEnd, open_end, end_of_open, recorded_part, opened_part, swept_part, read_part, part_call}
 use Rattle.text_parts.proofs.Fitted.{none-fits, put-none, over-front, fit-first}
 
@@ -114,29 +109,28 @@ module _ (number line from : ℕ) (out : List ℕ) where
       go (suc n) z = rw (drop-none n)
 
   module _ (z : from ≡ 0) where
-    pub refused-is : (p : Put) → p ≡ put 0 (refused_text number line) 0 out → part_line p.reply p.out ≡ refused_part number line from out
-    refused-is p e = ap (λ (x : Put). part_line x.reply x.out) e ∙ line-cases (refused_text number line) out ∙ ap (λ (n : ℕ). refused_part number line n out) (sym z)
+    pub refused-is : (p : Put) (told : ℕ) → told ≡ number → p ≡ put 0 (refused_text told line) 0 out → part_line p.reply p.out ≡ refused_part number line from out
+    refused-is p told n e =
+        ap (λ (x : Put). part_line x.reply x.out) e
+        ∙ line-cases (refused_text told line) out
+        ∙ ap₂ (λ (m i : ℕ). refused_part m line i out) n (sym z)
 
-    pub refused-some : (next : ℕ) (new : List ℕ) → run_put (Past next) new ≡ put 0 (refused_text number line) 0 out → (reply : Part) → reply ≡ Lines 1 next 0
-        → part_left reply new ≡ refused_part number line from out
-    refused-some next new p reply q = ap (λ (x : Part). part_left x new) q ∙ refused-is (run_put (Past next) new) p
+    pub refused-some : (told : ℕ) → told ≡ number → (next : ℕ) (new : List ℕ) → run_put (Past next) new ≡ put 0 (refused_text told line) 0 out
+        → (reply : Part) → reply ≡ Lines 1 next 0 → part_left reply new ≡ refused_part number line from out
+    refused-some told n next new p reply q = ap (λ (x : Part). part_left x new) q ∙ refused-is (run_put (Past next) new) told n p
 
 -- ---- the fault-free run
 
-pub open-part : (h : Head) (rows : ℕ) (k : Columns) (media copy ks os ls : List ℕ) → length media ≡ 16384 → length copy ≡ 16384
-    → (n : ℕ) → n ≡ min h.geometry.capacity 16384 → (r : Opened) (media₁ copy₁ ks₁ os₁ ls₁ : List ℕ)
-    → open_left r media₁ copy₁ ks₁ os₁ ls₁ ≡ open_call h rows k (take n media) (take n copy) ks os ls
-    → open_end r ks₁ os₁ ls₁ ≡ end_of_open (open_call h rows k (take h.geometry.capacity media) (take h.geometry.capacity copy) ks os ls)
-open-part h rows k media copy ks os ls lm lc n q r media₁ copy₁ ks₁ os₁ ls₁ p =
-    ap end_of_open p
-    ∙ ap₂ (λ (x y : List ℕ). end_of_open (open_call h rows k x y ks os ls)) (take-few media 16384 h.geometry.capacity n lm q)
-    (take-few copy 16384 h.geometry.capacity n lc q)
-
-pub open-zeros : (h : Head) (rows : ℕ) (k : Columns) (ks os ls : List ℕ) (e : OpenEnd)
-    → (let media : List ℕ = take h.geometry.capacity (replicate 16384 0) in e ≡ end_of_open (open_call h rows k media media ks os ls))
-    → e ≡ end_of_open (open_call h rows k (cells h) (cells h) ks os ls)
+-- on as much of media and copy, columns of zeros, as there is
+pub open-part : (h : Head) (rows : ℕ) (k : Columns) (ks os ls : List ℕ) (n : ℕ) → n ≡ min h.geometry.capacity 16384
+    → (r : Opened) (media₁ copy₁ ks₁ os₁ ls₁ : List ℕ)
+    → (let media : List ℕ = replicate 16384 0 in open_left r media₁ copy₁ ks₁ os₁ ls₁ ≡ open_call h rows k (take n media) (take n media) ks os ls)
+    → open_end r ks₁ os₁ ls₁ ≡ end_of_open (open_call h rows k (cells h) (cells h) ks os ls)
 unfolding zeros
-open-zeros h rows k ks os ls e p = p
+open-part h rows k ks os ls n q r media₁ copy₁ ks₁ os₁ ls₁ p =
+    let media : List ℕ = replicate 16384 0 in
+    ap end_of_open p
+    ∙ ap (λ (x : List ℕ). end_of_open (open_call h rows k x x ks os ls)) (take-few media 16384 h.geometry.capacity n (length-replicate {A = ℕ} 16384 0) q)
 
 -- ---- a read script
 
@@ -154,10 +148,9 @@ module _ (judged : Bool) (from : ℕ) (h : Head) (rows : ℕ) (k : Columns) (out
       p ∙ λ i. runs_part (λ (place at : ℕ) (o : List ℕ). run_line_call judged place h rows k (ek i) (eo i) (el i) at o) (c i) from out
 
   module _ (ks os ls : List ℕ) where
-    pub opened-refused : (q : Result Sweep Refusal) (e : Refusal) → q ≡ Err e → (number : ℕ) → number ≡ number_of e → (p : PartLeft)
-        → p ≡ refused_part number 0 from out → p ≡ opened_part judged from h rows k (opened_as q) ks os ls out
-    opened-refused q e z number n p x =
-        x ∙ ap (λ (m : ℕ). refused_part m 0 from out) n ∙ ap (λ (y : Result Sweep Refusal). opened_part judged from h rows k (opened_as y) ks os ls out) (sym z)
+    pub opened-refused : (q : Result Sweep Refusal) (e : Refusal) → q ≡ Err e → (p : PartLeft) → p ≡ refused_part (number_of e) 0 from out
+        → p ≡ opened_part judged from h rows k (opened_as q) ks os ls out
+    opened-refused q e z p x = x ∙ ap (λ (y : Result Sweep Refusal). opened_part judged from h rows k (opened_as y) ks os ls out) (sym z)
 
     pub opened-runs : (q : Result Sweep Refusal) (s : Sweep) → q ≡ Ok s → (p : PartLeft) → p ≡ recorded_part judged from h rows k s.operations s.points ks os ls out
         → p ≡ opened_part judged from h rows k (opened_as q) ks os ls out
@@ -176,10 +169,8 @@ module _ (judged : Bool) (text : List ℕ) (from : ℕ) (out : List ℕ) (r : Re
   unfolding part_call zeros
   read-is = ap (λ (x : After). read_part judged from x.reply x.columns out) e
 
-  pub read-refused : (error : ScriptError) → r ≡ Err error → (number : ℕ) → number ≡ number_of error.refusal → (p : PartLeft)
-      → p ≡ refused_part number error.line from out → p ≡ part_call judged text from out
-  read-refused error q number n p x =
-      x ∙ ap (λ (m : ℕ). refused_part m error.line from out) n ∙ ap (λ (y : Result Script ScriptError). read_part judged from (reply_of y) k out) (sym q) ∙ read-is
+  pub read-refused : (error : ScriptError) → r ≡ Err error → (p : PartLeft) → p ≡ refused_part (number_of error.refusal) error.line from out → p ≡ part_call judged text from out
+  read-refused error q p x = x ∙ ap (λ (y : Result Script ScriptError). read_part judged from (reply_of y) k out) (sym q) ∙ read-is
 
   pub read-swept : (s : Script) → r ≡ Ok s → (c : Columns) → c ≡ k → (p : PartLeft) → p ≡ swept_part judged from s.head s.calls c out → p ≡ part_call judged text from out
   read-swept s q c z p x =

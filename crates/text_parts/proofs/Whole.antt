@@ -24,8 +24,7 @@ use Rattle.lines.specs.Answers.{Put, put}
 use Rattle.pieces.proofs.Cursors.{length-overlaid, overlaid-more}
 use Rattle.pieces.proofs.Lists.{flatten-append}
 use Rattle.sweeps.specs.Sweep.{sweep_output, judge_output}
-use Rattle.harness.specs.Opening.{Opened}
-use Rattle.harness.specs.Opening.{OpenLeft, open_on}
+use Rattle.harness.specs.Opening.{Opened, OpenLeft, open_on}
 use Rattle.text_of_runs.specs.Lent.{Sheet}
 use Rattle.text_of_runs.specs.Printout.{sweep_lines, judge_lines}
 use Rattle.text_of_runs.specs.Claim.{run_lines, Outputs, Printed, unread, unswept, swept}
@@ -33,8 +32,7 @@ use Rattle.text_of_runs.proofs.Short.{put-past, runs-short, refused-short}
 use Rattle.text_of_runs.proofs.Whole.{printed}
 use Rattle.run_lines.specs.RunLine.{run_line_call}
 use Rattle.run_lines.proofs.Whole.{zeros-long, line_at}
-use Rattle.text_parts.specs.Parts.{Part}
-use Rattle.text_parts.specs.Parts.{fitting, none_fits, part_left, part_with, part_of, in_turn, Parts, AllParts}
+use Rattle.text_parts.specs.Parts.{fitting, none_fits, part_left, part_with, part_of, in_turn, Parts, AllParts, lines_for}
 use Rattle.text_parts.specs.Inner.{fill_runs, part_reply, part_after, part_first, first_part, runs_part, runs_of, recorded_part, opened_part, swept_part, fresh_columns, read_part, part_call}
 use Rattle.text_parts.proofs.Fitted.{fit-first, fit-before, none-fits, part_by, reply-is, put-none, over-front, reached, fills}
 
@@ -140,11 +138,6 @@ module _ (w : (place at : ℕ) → List ℕ → Put) (line : ℕ → List ℕ) (
 
 -- ---- the part of a text
 
--- the lines of a program
-abbrev pub lines_for : (judged : Bool) → (text : List ℕ) → List (List ℕ)
-lines_for true text = judge_lines text
-lines_for false text = sweep_lines text
-
 -- the line of a run, judged or swept
 abbrev line_for : (judged : Bool) → (sweep judge : ℕ → List ℕ) → (place : ℕ) → List ℕ
 line_for judged sweep judge place = cond judged (judge place) (sweep place)
@@ -170,7 +163,7 @@ run-lines true text runs sweep judge o = o.judge-lines
 run-lines false text runs sweep judge o = o.sweep-lines
 
 runs-of : (points : ℕ) → points ≤ 50337794 → runs_of points ≡ suc points
-runs-of points h = let s : points + 1 ≡ suc points = omega arith in rw (lt-ltb points 4294967295 (omega arith)) s
+runs-of points h = omega arith
 
 module _ (judged : Bool) (text : List ℕ) (from : ℕ) (out : List ℕ) where
   -- a script that was read, by what its fault-free run left
@@ -206,14 +199,6 @@ module _ (judged : Bool) (text : List ℕ) (from : ℕ) (out : List ℕ) where
 
   pub part-is : Wanted
   part-is = by-ways (printed text fresh_columns sheet)
-
-pub sweep-part-is : (text : List ℕ) (from : ℕ) (out : List ℕ) (reply : Part) (new : List ℕ) → part_left reply new ≡ part_call false text from out
-    → part_left reply new ≡ part_of (drop from (sweep_lines text)) out
-sweep-part-is text from out reply new p = p ∙ part-is false text from out
-
-pub judge-part-is : (text : List ℕ) (from : ℕ) (out : List ℕ) (reply : Part) (new : List ℕ) → part_left reply new ≡ part_call true text from out
-    → part_left reply new ≡ part_of (drop from (judge_lines text)) out
-judge-part-is text from out reply new p = p ∙ part-is true text from out
 
 -- ---- parts one after another
 

@@ -1,31 +1,22 @@
 -- What the private functions of `src/` answer. No public contract cites these. Definitions only; assumes nothing.
-use Rattle.std.specs.Prelude.{Bool, not, ◌&&◌, cond, List, [], ◌∷◌, ℕ, zero, suc, ◌+◌, ◌-◌, take, drop, eqb, ltb}
+use Rattle.std.specs.Prelude.{Bool, not, ◌&&◌, cond, List, [], ◌∷◌, ℕ, zero, suc, ◌+◌, ◌-◌, min, take, drop, eqb, ltb, Ok as Past, Err as NotWritten, Ok as UpTo, Err as NoLine}
 use Rattle.script.specs.declared.Head.{Head}
 use Rattle.script.specs.Lent.{columns_seen}
-use Rattle.script.specs.Columns.{ReadScript}
-use Rattle.script.specs.Columns.{Read, Refused}
-use Rattle.script.specs.Columns.{Columns, columns, read_into}
-use Rattle.lines.specs.Answers.{Line}
-use Rattle.std.specs.Prelude.{Ok as Past, Err as NotWritten}
+use Rattle.script.specs.Columns.{ReadScript, Read, Refused, Columns, columns, read_into}
+use Rattle.lines.specs.Answers.{Line, put, Put}
 use Rattle.lines.specs.Lines.{runs_line, refused_text}
-use Rattle.lines.specs.Answers.{put}
-use Rattle.harness.specs.Opening.{Opened}
-use Rattle.harness.specs.Opening.{Runs, NotSwept}
-use Rattle.harness.specs.Opening.{OpenLeft, open_on}
-use Rattle.std.specs.Prelude.{Ok as UpTo, Err as NoLine}
+use Rattle.harness.specs.Opening.{Opened, Runs, NotSwept, OpenLeft, open_on}
 use Rattle.harness_runs.specs.Running.{zeros}
-use Rattle.lines.specs.Answers.{Put}
 use Rattle.run_lines.specs.RunLine.{run_line_call}
-use Rattle.text_parts.specs.Parts.{Part}
-use Rattle.text_parts.specs.Parts.{Lines, NoRoom}
+use Rattle.text_parts.specs.Parts.{Part, Lines, NoRoom, PartLeft, part_left, part_of}
 use Rattle.text_parts.specs.declared.Opened.{Opened as CodeOpened}
-use Rattle.text_parts.specs.Parts.{PartLeft, part_left, part_of}
 
 -- ---- runs into a buffer
 
--- what the line of the run at a place is made of
-abbrev pub writer : (judged : Bool) → CodeOpened → (place at : ℕ) → List ℕ → Put
-writer judged o place at out = run_line_call judged place o.head o.rows (columns_seen o.calls) o.ops.kinds.now o.ops.offsets.now o.ops.lens.now at out
+-- the line of the run at a place
+abbrev pub line_of : (judged : Bool) → CodeOpened → (place at : ℕ) → List ℕ → Put
+line_of judged o place at out =
+    run_line_call judged place o.writer.head o.writer.rows (columns_seen o.writer.calls) o.ops.kinds.now o.ops.offsets.now o.ops.lens.now at out
 
 -- how far the lines of runs were put: the first run that was not, and the place past the last line
 pub record Filled : Type 0 where
@@ -48,7 +39,7 @@ abbrev pub onward : (ℕ → List ℕ → FillLeft) → FillLeft → Line → (o
 onward next stay (UpTo at) out = next at out
 onward next stay (NoLine number) out = stay
 
--- so many runs from a place on, each by its line's writer
+-- so many runs from a place on, each by what puts its line
 unfoldable pub fill_runs : ((place at : ℕ) → List ℕ → Put) → (n place at : ℕ) → (out : List ℕ) → FillLeft
 fill_runs w zero place at out = filled_at place at out
 fill_runs w (suc n) place at out =
@@ -81,7 +72,7 @@ runs_part w runs from out =
 
 -- one run more than crash points, which are far fewer than 2^32
 abbrev pub runs_of : (points : ℕ) → ℕ
-runs_of points = cond (ltb points 4294967295) (points + 1) 4294967295
+runs_of points = min points 4294967294 + 1
 
 -- a script that is refused
 abbrev pub refused_part : (number line from : ℕ) → (out : List ℕ) → PartLeft

@@ -1,13 +1,17 @@
 -- Document 01, "Scripts and the two programs": what `sweep` and `judge` print, as lines, and the part of them that a buffer has room for.
 -- Definitions only; assumes nothing.
-use Rattle.std.specs.Prelude.{◌≡◌, Bool, false, cond, ℕ, zero, suc, ◌-◌, ◌≤◌, ◌<◌, length, take, drop, leb, ltb}
-use Rattle.std.specs.Prelude.{Result, Ok, Err}
+use Rattle.std.specs.Prelude.{◌≡◌, Bool, true, false, cond, ℕ, zero, suc, ◌-◌, ◌≤◌, ◌<◌, length, take, drop, leb, ltb, Result, Ok, Err}
 use Rattle.refusals.specs.declared.Refusal.{Refusal}
 use Rattle.refusals.specs.Numbers.{number_of}
 use Rattle.text_parts.specs.declared.Part.{Part as CodePart}
 use mathlib.Core.List.{List, [], ◌∷◌, ◌++◌, flatten}
 use Rattle.sweeps.specs.Sweep.{sweep_output, judge_output}
 use Rattle.text_of_runs.specs.Printout.{sweep_lines, judge_lines}
+
+-- the lines of one program or the other
+abbrev pub lines_for : (judged : Bool) → (text : List ℕ) → List (List ℕ)
+lines_for true text = judge_lines text
+lines_for false text = sweep_lines text
 
 -- ---- a part of the lines
 

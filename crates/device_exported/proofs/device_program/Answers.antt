@@ -5,4 +5,4 @@ use Rattle.device_exported.proofs.device_program.Goals as goal
 
 pub returns : goal.returns
 unfolding program_call
-returns c = rw (← c.units-geometry.ensures, ← c.rule_of-bits.ensures) (c.number_in.ensures ∙ ap (λ (a : Called). a.reply) c.program.ensures, ap (λ (a : Called). a.content) c.program.ensures)
+returns c = rw (← c.units-geometry.ensures, ← c.from-bits.ensures) (c.number_in.ensures ∙ ap (λ (a : Called). a.reply) c.program.ensures, ap (λ (a : Called). a.content) c.program.ensures)

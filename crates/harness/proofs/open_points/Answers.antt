@@ -8,13 +8,13 @@ use Rattle.harness.proofs.open_points.Goals as goal
 
 pub returns-then-head-range_behind : goal.returns-then-head-range_behind
 returns-then-head-range_behind c =
-    points-26 c.args.head c.args.operations (calls_in c.args.rows (columns_seen c.args.calls.now)) c.args.ops.now.kinds.now c.args.ops.now.offsets.now c.args.ops.now.lens.now _ c.range_behind.ensures c.if-head-range_behind.true
+    points-26 c.args.writer.now.head c.args.operations (calls_in c.args.writer.now.rows (columns_seen c.args.writer.now.calls)) c.args.ops.now.kinds.now c.args.ops.now.offsets.now c.args.ops.now.lens.now _ c.range_behind.ensures c.if-head-range_behind.true
 
 pub returns-in_err-points : goal.returns-in_err-points
 returns-in_err-points c =
-    let t = points-refused c.args.head c.args.operations (calls_in c.args.rows (columns_seen c.args.calls.now)) c.args.ops.now.kinds.now c.args.ops.now.offsets.now c.args.ops.now.lens.now _ c.range_behind.ensures c.if-head-range_behind.false _ c.lower-n.ensures.0 c.requires.1 c.requires.2 _ c.in_err-points.ensures _ refl in
+    let t = points-refused c.args.writer.now.head c.args.operations (calls_in c.args.writer.now.rows (columns_seen c.args.writer.now.calls)) c.args.ops.now.kinds.now c.args.ops.now.offsets.now c.args.ops.now.lens.now _ c.range_behind.ensures c.if-head-range_behind.false _ c.lower-n.ensures.0 c.requires.1 c.requires.2 _ c.in_err-points.ensures _ refl in
     search rules
 
 pub returns : goal.returns
 returns c =
-    points-counted c.args.head c.args.operations (calls_in c.args.rows (columns_seen c.args.calls.now)) c.args.ops.now.kinds.now c.args.ops.now.offsets.now c.args.ops.now.lens.now _ c.range_behind.ensures c.if-head-range_behind.false _ c.lower-n.ensures.0 c.requires.1 c.requires.2 _ c.in_ok-points.ensures _ refl
+    points-counted c.args.writer.now.head c.args.operations (calls_in c.args.writer.now.rows (columns_seen c.args.writer.now.calls)) c.args.ops.now.kinds.now c.args.ops.now.offsets.now c.args.ops.now.lens.now _ c.range_behind.ensures c.if-head-range_behind.false _ c.lower-n.ensures.0 c.requires.1 c.requires.2 _ c.in_ok-points.ensures _ refl

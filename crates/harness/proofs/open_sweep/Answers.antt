@@ -10,17 +10,17 @@ use Rattle.harness.proofs.open_sweep.Goals as goal
 
 pub returns-in_err-run : goal.returns-in_err-run
 returns-in_err-run c =
-    let t = open-refused c.args.head c.args.rows (columns_seen c.args.calls.now) c.args.media.now c.args.copy.now c.args.ops.now c.args.spans.now c.args.sizes.now _ (zeros-are 512) _ _ _ _ _ _ _ c.run_one.ensures _ (ap ran_as c.in_err-run.was) in
+    let t = open-refused c.args.writer.now.head c.args.writer.now.rows (columns_seen c.args.writer.now.calls) c.args.media.now c.args.copy.now c.args.recorded.now.kinds c.args.recorded.now.offsets c.args.recorded.now.lens _ (zeros-are 512) _ _ _ _ _ _ _ c.run_one.ensures _ (ap ran_as c.in_err-run.was) in
     search rules
 
 pub returns-then-run : goal.returns-then-run
 returns-then-run c =
-    open-failed c.args.head c.args.rows (columns_seen c.args.calls.now) c.args.media.now c.args.copy.now c.args.ops.now c.args.spans.now c.args.sizes.now _ (zeros-are 512) _ _ _ _ _ _ _ c.run_one.ensures _ _ _ _ (ap ran_as c.in_ok-run.was) c.if-run.true
+    open-failed c.args.writer.now.head c.args.writer.now.rows (columns_seen c.args.writer.now.calls) c.args.media.now c.args.copy.now c.args.recorded.now.kinds c.args.recorded.now.offsets c.args.recorded.now.lens _ (zeros-are 512) _ _ _ _ _ _ _ c.run_one.ensures _ _ _ _ (ap ran_as c.in_ok-run.was) c.if-run.true
 
 pub open_points-requires : goal.open_points-requires
 open_points-requires c =
-    (open-ready c.args.head c.args.rows (columns_seen c.args.calls.now) c.args.media.now c.args.copy.now c.args.ops.now c.args.spans.now c.args.sizes.now _ (zeros-are 512) _ _ _ _ _ _ _ c.run_one.ensures _ _ _ _ (ap ran_as c.in_ok-run.was), omega arith, omega arith)
+    (open-ready c.args.writer.now.head c.args.writer.now.rows (columns_seen c.args.writer.now.calls) c.args.media.now c.args.copy.now c.args.recorded.now.kinds c.args.recorded.now.offsets c.args.recorded.now.lens _ (zeros-are 512) _ _ _ _ _ _ _ c.run_one.ensures _ _ _ _ (ap ran_as c.in_ok-run.was), omega arith, omega arith)
 
 pub returns : goal.returns
 returns c =
-    open-runs c.args.head c.args.rows (columns_seen c.args.calls.now) c.args.media.now c.args.copy.now c.args.ops.now c.args.spans.now c.args.sizes.now _ (zeros-are 512) _ _ _ _ _ _ _ c.run_one.ensures _ _ _ _ (ap ran_as c.in_ok-run.was) c.if-run.false _ c.open_points.ensures
+    open-runs c.args.writer.now.head c.args.writer.now.rows (columns_seen c.args.writer.now.calls) c.args.media.now c.args.copy.now c.args.recorded.now.kinds c.args.recorded.now.offsets c.args.recorded.now.lens _ (zeros-are 512) _ _ _ _ _ _ _ c.run_one.ensures _ _ _ _ (ap ran_as c.in_ok-run.was) c.if-run.false _ c.open_points.ensures

@@ -1,22 +1,25 @@
 -- `harness::range_behind` meets its contract: the rows not yet looked at tell what all tell. Assumes nothing.
-use native.Mathlib.Omega.{arith}
+use Rattle.std.proofs.Common.{rules}
 use Rattle.script.specs.Lent.{columns_seen}
-use Rattle.harness.proofs.Behind.{behind-found, behind-next, behind-none}
+use Rattle.harness.proofs.Behind.{behind-first, few-first, behind-found, behind-next, behind-none, row-counted}
 use Rattle.harness.proofs.range_behind.Goals as goal
+
+pub loop-kind-init : goal.loop-kind-init
+loop-kind-init c =
+    let t = behind-first c.args.rows (columns_seen c.args.calls.now) c.requires in
+    let u = few-first c.args.rows c.args.calls.now.kinds.now in
+    (search rules, search rules)
 
 pub returns-then-is_behind : goal.returns-then-is_behind
 returns-then-is_behind c =
-    let t = c.loop-i-test.true in
-    behind-found c.args.rows (columns_seen c.args.calls.now) c.requires c.loop-i.i c.loop-i.operations c.loop-i.invariant.0 t _ c.is_behind.ensures c.if-is_behind.true
+    behind-found _ c.loop-kind.operations c.loop-kind.kind-iterator c.next.new.self c.loop-kind.invariant.0 c.in-Some.kind c.in-Some.from c.in-Some.to c.in-Some.ensures.steps _ c.is_behind.ensures c.if-is_behind.true
 
-pub loop-i-preserved : goal.loop-i-preserved
-loop-i-preserved c =
-    let t = c.loop-i-test.true in (
-      behind-next c.args.rows (columns_seen c.args.calls.now) c.requires c.loop-i.i c.loop-i.operations c.loop-i.invariant.0 t _ c.is_behind.ensures c.if-is_behind.false _ c.operations_in-operations.ensures.0,
-      omega (arith, c.operations_in-operations.ensures.1, c.loop-i.invariant.1),
+pub loop-kind-preserved : goal.loop-kind-preserved
+loop-kind-preserved c =
+    let l = c.loop-kind in (
+      behind-next _ l.operations l.kind-iterator c.next.new.self l.invariant.0 c.in-Some.kind c.in-Some.from c.in-Some.to c.in-Some.ensures.steps _ c.is_behind.ensures c.if-is_behind.false _ c.from-operations.ensures,
+      row-counted _ l.operations l.kind-iterator c.next.new.self l.invariant.0 c.in-Some.kind c.in-Some.from c.in-Some.to c.in-Some.ensures.steps _ c.is_behind.ensures c.args.rows _ c.from-operations.ensures l.invariant.1,
     )
 
 pub returns : goal.returns
-returns c =
-    let t = c.loop-i-test.false in
-    behind-none c.args.rows (columns_seen c.args.calls.now) c.requires c.loop-i.i c.loop-i.operations c.loop-i.invariant.0 (omega (arith, t))
+returns c = behind-none _ c.loop-kind.operations c.loop-kind.kind-iterator c.next.new.self c.loop-kind.invariant.0 c.in-None.ensures.steps

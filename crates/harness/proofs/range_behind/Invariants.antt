@@ -1,12 +1,14 @@
 -- `harness::range_behind` meets its contract: the rows not yet looked at tell what all tell. Assumes nothing.
 use mathlib.Core.Path.{◌≡◌}
-use Prim.Native.Nat.{◌≤◌}
+use Prim.Native.Nat.{◌+◌, ◌≤◌}
+use lib.ListN.{length}
 use Rattle.script.specs.Lent.{columns_seen}
 use Rattle.script.specs.Held.{calls_in}
-use Rattle.rows.proofs.Rows.{rows_at}
 use Rattle.sweeps.specs.Decided.{range_behind}
+use Rattle.harness.proofs.Behind.{kinds_left, behind_left}
 use Rattle.harness.proofs.range_behind.Given as goal
 
-abbrev pub invariant-loop-i : goal.invariant-loop-i
-invariant-loop-i l = let k = columns_seen l.calls in
-    (range_behind 0 (calls_in l.rows k) ≡ range_behind l.operations (rows_at l.rows k l.i)) × (l.operations ≤ l.i)
+abbrev pub invariant-loop-kind : goal.invariant-loop-kind
+invariant-loop-kind l =
+    (range_behind 0 (calls_in l.rows (columns_seen l.calls)) ≡ behind_left l.operations l.kind-iterator)
+    × (l.operations + length (kinds_left l.kind-iterator) ≤ l.rows)

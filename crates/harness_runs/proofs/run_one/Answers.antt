@@ -15,16 +15,16 @@ use Rattle.harness_runs.proofs.run_one.Goals as goal
 
 pub returns-in_err-rows_refusal : goal.returns-in_err-rows_refusal
 returns-in_err-rows_refusal c =
-    let t = run-refused c.args.head c.args.armed c.args.rows (columns_seen c.args.calls.now) c.args.media.now c.args.copy.now c.args.ops.now c.args.spans.now c.args.sizes.now (entered_of c.args.ids.now c.args.states.now c.args.torn.now) _ c.in_err-rows_refusal.ensures (refusal-nonzero _) in
+    let t = run-refused c.args.writer.now.head c.args.armed c.args.writer.now.rows (columns_seen c.args.writer.now.calls) c.args.media.now c.args.copy.now c.args.recorded.now.kinds c.args.recorded.now.offsets c.args.recorded.now.lens (entered_of c.args.entries.now.ids c.args.entries.now.states c.args.entries.now.torn) _ c.in_err-rows_refusal.ensures (refusal-nonzero _) in
     search rules
 
-pub returns-in_err-entries : goal.returns-in_err-entries
-returns-in_err-entries c =
-    let t = run_ends c.args.head c.args.armed c.args.rows (columns_seen c.args.calls.now) c.args.media.now c.args.copy.now c.args.ops.now c.args.spans.now c.args.sizes.now (entered_of c.args.ids.now c.args.states.now c.args.torn.now) _ c.in_ok-rows_refusal.ensures refl _ _ (zeros-are 1024) (zeros-are 512) _ c.told_by-told.ensures _ _ c.unstarted.ensures c.fill_erased.ensures _ _ _ _ _ _ _ c.run_ledgered-derived.ensures.left _ _ c.run_ledgered-derived.ensures.derived _
-    (sym (ap (λ (r : Result ℕ Refusal). ended_by c.run_ledgered-derived.result.0.counters c.run_ledgered-derived.result.0.failed (numbered number_of r)) c.in_err-entries.was)) in
+pub returns-in_err-count : goal.returns-in_err-count
+returns-in_err-count c =
+    let t = run_ends c.args.writer.now.head c.args.armed c.args.writer.now.rows (columns_seen c.args.writer.now.calls) c.args.media.now c.args.copy.now c.args.recorded.now.kinds c.args.recorded.now.offsets c.args.recorded.now.lens (entered_of c.args.entries.now.ids c.args.entries.now.states c.args.entries.now.torn) _ c.in_ok-rows_refusal.ensures refl _ _ (zeros-are 1024) (zeros-are 512) _ c.told_by-told.ensures _ _ c.fresh.ensures c.fill_erased.ensures _ _ _ _ _ _ _ c.run_ledgered-derived.ensures.left _ _ c.run_ledgered-derived.ensures.derived _
+    (sym (ap (λ (r : Result ℕ Refusal). ended_by c.run_ledgered-derived.result.0.counters c.run_ledgered-derived.result.0.failed (numbered number_of r)) c.in_err-count.was)) in
     search rules
 
 pub returns : goal.returns
 returns c =
-    run_ends c.args.head c.args.armed c.args.rows (columns_seen c.args.calls.now) c.args.media.now c.args.copy.now c.args.ops.now c.args.spans.now c.args.sizes.now (entered_of c.args.ids.now c.args.states.now c.args.torn.now) _ c.in_ok-rows_refusal.ensures refl _ _ (zeros-are 1024) (zeros-are 512) _ c.told_by-told.ensures _ _ c.unstarted.ensures c.fill_erased.ensures _ _ _ _ _ _ _ c.run_ledgered-derived.ensures.left _ _ c.run_ledgered-derived.ensures.derived _
-    (sym (ap (λ (r : Result ℕ Refusal). ended_by c.run_ledgered-derived.result.0.counters c.run_ledgered-derived.result.0.failed (numbered number_of r)) c.in_ok-entries.was))
+    run_ends c.args.writer.now.head c.args.armed c.args.writer.now.rows (columns_seen c.args.writer.now.calls) c.args.media.now c.args.copy.now c.args.recorded.now.kinds c.args.recorded.now.offsets c.args.recorded.now.lens (entered_of c.args.entries.now.ids c.args.entries.now.states c.args.entries.now.torn) _ c.in_ok-rows_refusal.ensures refl _ _ (zeros-are 1024) (zeros-are 512) _ c.told_by-told.ensures _ _ c.fresh.ensures c.fill_erased.ensures _ _ _ _ _ _ _ c.run_ledgered-derived.ensures.left _ _ c.run_ledgered-derived.ensures.derived _
+    (sym (ap (λ (r : Result ℕ Refusal). ended_by c.run_ledgered-derived.result.0.counters c.run_ledgered-derived.result.0.failed (numbered number_of r)) c.in_ok-count.was))

@@ -1,35 +1,28 @@
--- `held::same_ops` meets its contract: what is left decides. Assumes nothing.
-use mathlib.Core.Path.{◌≡◌, sym, ◌∙◌}
-use Prim.Native.Nat.{suc}
+-- `held::same_ops` meets its contract: `eq` of the operations that are compared. Assumes nothing.
+use mathlib.Core.Path.{◌≡◌, ap, ap₂, ◌∙◌}
+use mathlib.Core.List.{List, map}
+use Prim.Native.Nat.{ℕ, suc}
 use native.Mathlib.Omega.{arith}
-use Rattle.std.proofs.Common.{rules}
-use Rattle.held.specs.Held.{recorded_in, end_of}
-use Rattle.held.proofs.Alike.{ops-unequal, ops-differ, ops-next, ops-out}
+use Rattle.std.specs.List.{range_with_len}
+use Rattle.std.proofs.Common.{refl, rules}
+use Rattle.std.proofs.lemmas.Iterator.{YieldsList-from_range, YieldsList-from_map}
+use Rattle.std.proofs.lemmas.Iterator.Consumers.{YieldsList-at}
+use Rattle.inject.specs.declared.Op.{Op}
+use Rattle.held.specs.Held.{recorded_in, same, same_op}
+use Rattle.held.proofs.Alike.{op-true, op_self, op-eq, row_of, ops-given}
+use Rattle.held.proofs.Compared.{compared}
 use Rattle.held.proofs.same_ops.Goals as goal
-use Rattle.held.proofs.same_ops.Goals.{Else-end-end_of}
-
--- both runs are compared as far
-ends : (c : goal.Else-end-end_of) → end_of (suc c.args.op) (recorded_in c.args.free.now) ≡ end_of (suc c.args.op) (recorded_in c.args.run.now)
-ends c = sym c.end_of-end.ensures ∙ c.if-end-end_of.false ∙ c.end_of.ensures
-
-pub returns-then-end-end_of : goal.returns-then-end-end_of
-returns-then-end-end_of c =
-    ops-unequal (suc c.args.op) (recorded_in c.args.free.now) (recorded_in c.args.run.now) c.requires
-    (λ q. c.if-end-end_of.true (c.end_of-end.ensures ∙ q ∙ sym c.end_of.ensures))
-
-pub loop-at-preserved : goal.loop-at-preserved
-loop-at-preserved c =
-    let one : c.op_at.result ≡ c.op_at-in-loop-at.result = search rules in
-    ops-next (suc c.args.op) (recorded_in c.args.free.now) (recorded_in c.args.run.now) c.requires (ends (goal.at.loop-at-preserved c).Else-end-end_of) c.loop-at.at c.loop-at.invariant
-    (omega (arith, c.end_of-end.ensures, c.loop-at-test.true)) _ _ c.op_at.ensures c.op_at-in-loop-at.ensures one
-
-pub returns-then-ne : goal.returns-then-ne
-returns-then-ne c =
-    let other : c.op_at.result ≡ c.op_at-in-loop-at.result → ⊥ = search rules in
-    ops-differ (suc c.args.op) (recorded_in c.args.free.now) (recorded_in c.args.run.now) c.requires (ends (goal.at.returns-then-ne c).Else-end-end_of) c.loop-at.at c.loop-at.invariant
-    (omega (arith, c.end_of-end.ensures, c.loop-at-test.true)) _ _ c.op_at.ensures c.op_at-in-loop-at.ensures other
 
 pub returns : goal.returns
 returns c =
-    ops-out (suc c.args.op) (recorded_in c.args.free.now) (recorded_in c.args.run.now) c.requires (ends (goal.at.returns c).Else-end-end_of) c.loop-at.at c.loop-at.invariant
-    (omega (arith, c.end_of-end.ensures, c.loop-at-test.false))
+    let f = recorded_in c.args.free.now.recorded in
+    let r = recorded_in c.args.run.now.recorded in
+    let m = c.end_of.result in
+    let n = c.end_of-2.result in
+    compared (λ (o : Op). o) same_op op-true op_self _
+    (op-eq _ (λ a m b n. refl) (λ a m b n. refl) refl (λ a m b n. refl) (λ a m. refl) (λ a m b n. refl) (λ a m. refl) (λ b n. refl) (λ b n. refl)) (λ a b. b ≡ a) _ _ _ c.eq.ensures.ran (λ it q. q) _ _
+    (YieldsList-from_map _ (row_of f) (YieldsList-at c.map-free_ops.ensures.source (YieldsList-from_range 0 m m refl (omega arith))) c.map-free_ops.ensures.closure (λ x b q k. search rules))
+    (YieldsList-from_map _ (row_of r) (YieldsList-at c.map-ops.ensures.source (YieldsList-from_range 0 n n refl (omega arith))) c.map-ops.ensures.closure (λ x b q k. search rules))
+    ∙ ap₂ (same same_op)
+    (ap (λ (k : ℕ). map (row_of f) (range_with_len 0 k)) c.end_of.ensures ∙ ops-given (suc c.args.op) f c.args.free.now.fits)
+    (ap (λ (k : ℕ). map (row_of r) (range_with_len 0 k)) c.end_of-2.ensures ∙ ops-given (suc c.args.op) r c.args.run.now.fits)

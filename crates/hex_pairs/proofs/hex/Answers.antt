@@ -1,26 +1,16 @@
 -- `hex_pairs::hex` meets its contract: each way out is one case of the definition. Assumes nothing.
-use Rattle.std.proofs.Common.{arith}
-use Rattle.std.proofs.lemmas.Grind.{common_steps}
-use Rattle.text.specs.Numbers.{is_digit}
-use Rattle.text.specs.Pairs.{is_letter, hex_of}
+use mathlib.Core.Path.{sym, ◌∙◌}
+use Rattle.hex_pairs.proofs.Bytes.{letter-low, nibble-digit, nibble-letter, nibble-none}
 use Rattle.hex_pairs.proofs.hex.Goals as goal
 
-pub returns-in-48-to-57 : goal.returns-in-48-to-57
-unfolding hex_of is_digit is_letter
-returns-in-48-to-57 c = record { is = grind (arith, common_steps); small = omega arith }
+pub returns-then-is_ascii_digit : goal.returns-then-is_ascii_digit
+returns-then-is_ascii_digit c = nibble-digit _ (sym c.is_ascii_digit.ensures.value ∙ c.if-is_ascii_digit.true)
 
-pub returns-in-97-to-102 : goal.returns-in-97-to-102
-unfolding hex_of is_digit is_letter
-returns-in-97-to-102 c = record { is = grind (arith, common_steps); small = omega arith }
+pub overflow_sub-result-then-is_letter : goal.overflow_sub-result-then-is_letter
+overflow_sub-result-then-is_letter c = letter-low _ (sym c.is_letter.ensures ∙ c.if-is_letter.true)
 
-pub returns-in_default : goal.returns-in_default
-unfolding hex_of is_digit is_letter
-returns-in_default c = record { is = grind (arith, common_steps); small = omega arith }
+pub returns-then-is_letter : goal.returns-then-is_letter
+returns-then-is_letter c = nibble-letter _ (sym c.is_ascii_digit.ensures.value ∙ c.if-is_ascii_digit.false) (sym c.is_letter.ensures ∙ c.if-is_letter.true)
 
-pub returns-in_default-2 : goal.returns-in_default-2
-unfolding hex_of is_digit is_letter
-returns-in_default-2 c = record { is = grind (arith, common_steps); small = omega arith }
-
-pub returns-in_default-3 : goal.returns-in_default-3
-unfolding hex_of is_digit is_letter
-returns-in_default-3 c = record { is = grind (arith, common_steps); small = omega arith }
+pub returns : goal.returns
+returns c = nibble-none _ (sym c.is_ascii_digit.ensures.value ∙ c.if-is_ascii_digit.false) (sym c.is_letter.ensures ∙ c.if-is_letter.false)

@@ -1,13 +1,11 @@
--- `hex_pairs::hex_end` meets its contract. The loop has gone from `from` to `i` over digits alone. Assumes nothing.
-use borrow.Author.Rules.{rules}
-use Rattle.hex_pairs.proofs.Runs.{hexs}
+-- `hex_pairs::hex_end` meets its contract: past whole blocks of digits, the place that `position` found. Assumes nothing.
+use Rattle.std.proofs.Common.{rules, tests}
+use Rattle.std.proofs.lemmas.Iterator.{YieldsList-from_slice}
+use Rattle.std.proofs.lemmas.Iterator.Search.{position_from_yields_List}
+use Rattle.hex_pairs.proofs.Runs.{no_digit, digits-stopped}
 use Rattle.hex_pairs.proofs.hex_end.Goals as goal
 
-pub returns-then-not-is_hex : goal.returns-then-not-is_hex
-returns-then-not-is_hex c = search (rules, hexs)
-
-pub loop-i-preserved : goal.loop-i-preserved
-loop-i-preserved c = search (rules, hexs)
-
 pub returns : goal.returns
-returns c = search (rules, hexs)
+returns c =
+    let r = position_from_yields_List no_digit _ _ _ c.position-stop.ensures.ran (YieldsList-from_slice _ cc) (λ x b q k. search (rules, tests)) in
+    rw c.unwrap_or.ensures (digits-stopped _ _ c.requires _ c.skip_blocks-start.ensures _ r)

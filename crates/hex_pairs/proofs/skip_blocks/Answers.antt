@@ -1,10 +1,12 @@
--- `hex_pairs::skip_blocks` meets its contract. The loop has gone from `from` to `i` over digits alone. Assumes nothing.
-use native.Mathlib.Omega.{arith}
-use Rattle.hex_pairs.proofs.Runs.{skip_block}
+-- `hex_pairs::skip_blocks` meets its contract: the block that `position` found is the first that is not of digits alone. Assumes nothing.
+use Rattle.std.proofs.Common.{rules, tests}
+use Rattle.std.proofs.lemmas.Iterator.{YieldsList-from_slice}
+use Rattle.std.proofs.lemmas.Iterator.Search.{position_from_yields_List}
+use Rattle.hex_pairs.proofs.Runs.{no_block, blocks-skipped}
 use Rattle.hex_pairs.proofs.skip_blocks.Goals as goal
 
-pub loop-block-preserved : goal.loop-block-preserved
-loop-block-preserved c =
-    let l = c.loop-block in
+pub returns : goal.returns
+returns c =
     let w = c.as_chunks.ensures in
-    (omega arith, skip_block _ _ _ l.invariant.1 _ _ w.front w.front_len c.loop-block-test.true l.invariant.0 _ c.all_hex.ensures c.if-not-all_hex.false)
+    let r = position_from_yields_List no_block _ _ _ c.position-stop.ensures.ran (YieldsList-from_slice _ cc) (λ x b q k. search (rules, tests)) in
+    rw c.unwrap_or.ensures (blocks-skipped _ _ c.requires _ w.front w.front_len _ r)

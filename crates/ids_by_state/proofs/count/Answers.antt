@@ -1,26 +1,15 @@
--- `ids_by_state::count` meets its contract: what is counted and what the rows not yet read have make up the whole. Assumes nothing.
-use mathlib.Core.Path.{ap}
-use native.Mathlib.Omega.{arith}
-use lib.ListN.{length}
-use Rattle.ids_by_state.proofs.Rows.{row-picked, row-left, rows-end, picked-short}
+-- `ids_by_state::count` meets its contract: the chain gives the rows that the test picks, one for each id. Assumes nothing.
+use Rattle.std.proofs.Common.{◌∙◌, rules}
+use Rattle.std.proofs.lemmas.Iterator.{YieldsList-from_slice, YieldsList-from_zip}
+use Rattle.std.proofs.lemmas.Iterator.Consumers.{YieldsList-from_filter, YieldsList-at, count_from_yields_List}
+use Rattle.ids_by_state.proofs.Rows.{row_test, rows-picked}
 use Rattle.ids_by_state.proofs.count.Goals as goal
-
-pub overflow_add-n : goal.overflow_add-n
-overflow_add-n g c =
-    let l = c.args.ledger.now in
-    let e = ap length (row-picked g.T.Pick.picks c.loop-id.id-iterator c.next.new.self c.in-Some.id c.in-Some.state c.in-Some.torn c.in-Some.ensures.steps c.picks.result c.picks.ensures c.if-picks.true) in
-    omega (arith, c.loop-id.invariant, e, picked-short g.T.Pick.picks l.ids.now l.states.now l.torn.now)
-
-pub loop-id-preserved-then-picks : goal.loop-id-preserved-then-picks
-loop-id-preserved-then-picks g c =
-    let e = ap length (row-picked g.T.Pick.picks c.loop-id.id-iterator c.next.new.self c.in-Some.id c.in-Some.state c.in-Some.torn c.in-Some.ensures.steps c.picks.result c.picks.ensures c.if-picks.true) in
-    omega (arith, c.loop-id.invariant, e)
-
-pub loop-id-preserved : goal.loop-id-preserved
-loop-id-preserved g c =
-    let e = ap length (row-left g.T.Pick.picks c.loop-id.id-iterator c.next.new.self c.in-Some.id c.in-Some.state c.in-Some.torn c.in-Some.ensures.steps c.picks.result c.picks.ensures c.if-picks.false) in
-    omega (arith, c.loop-id.invariant, e)
 
 pub returns : goal.returns
 returns g c =
-    let e = ap length (rows-end g.T.Pick.picks c.loop-id.id-iterator c.next.new.self c.in-None.ensures.steps) in omega (arith, c.loop-id.invariant, e)
+    let l = c.args.ledger.now in
+    count_from_yields_List _ _ c.count.ensures.ran
+    (YieldsList-from_filter _ (row_test g.T.Pick.picks)
+    (YieldsList-at c.filter.ensures.source (YieldsList-from_zip (YieldsList-from_zip (YieldsList-from_slice l.ids.now cc) (YieldsList-from_slice l.states.now cc)) (YieldsList-from_slice l.torn.now cc)))
+    c.filter.ensures.closure (λ x b q k. search rules))
+    ∙ rows-picked g.T.Pick.picks l.ids.now l.states.now l.torn.now

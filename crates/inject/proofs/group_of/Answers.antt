@@ -1,12 +1,6 @@
--- `inject::group_of` meets its contract: the row's operation, and each arm's numbers stand for the interruption's none, byte and whole points. Assumes nothing.
-use mathlib.Core.Path.{refl}
-use Rattle.inject.proofs.Groups.{of_row, made-lost, made-reset, made-failed}
-use Rattle.inject.proofs.group_of.Goals.{in-PowerLoss, in-Watchdog, in-Failure}
+-- `inject::group_of` meets its contract: the points are those of the row's operation. Assumes nothing.
+use Rattle.inject.proofs.Groups.{of_row}
 use Rattle.inject.proofs.group_of.Goals as goal
 
 pub returns : goal.returns
-returns c = of_row _ _ _ _ _ c.op_of-op.ensures (elim c.match-cause.branch [
-  | in-PowerLoss w ↦ made-lost _ _ _ c.match-cause.nones _ _ c.len.ensures refl refl c.inner_count.ensures.0 c.wholes.ensures.0 _ w.in-PowerLoss.is w.tear_unit.ensures w.nones-is
-  | in-Watchdog w ↦ made-reset _ _ _ c.match-cause.nones _ _ c.len.ensures refl refl c.inner_count.ensures.0 c.wholes.ensures.0 _ w.in-Watchdog.is w.reset_unit.ensures w.nones-is
-  | in-Failure w ↦ made-failed _ _ _ c.match-cause.nones _ _ c.len.ensures refl refl c.inner_count.ensures.0 c.wholes.ensures.0 _ w.in-Failure.is w.tear_unit-in-Failure.ensures w.nones-is
-])
+returns c = of_row _ _ _ _ _ c.op_of.ensures c.group.ensures

@@ -16,7 +16,7 @@ use Rattle.ledger.proofs.ledger.Goals.{In_ok-refusal}
 held : (c : goal.In_ok-refusal) → Sound c.args.counters (length c.args.media.now) (length c.args.copy.now) (log_seen c.args.log.now) (marks_seen c.args.marks.now) (entered_in c.args.entries.now)
 held c =
     let a = c.args in
-    sound a.told a.counters a.media.now a.copy.now (log_seen a.log.now) (marks_seen a.marks.now) (entered_in a.entries.now) _ c.entries_uneven-uneven.ensures c.in_ok-refusal.ensures
+    sound a.told a.counters a.media.now a.copy.now (log_seen a.log.now) (marks_seen a.marks.now) (entered_in a.entries.now) _ c.uneven-uneven.ensures c.in_ok-refusal.ensures
 
 -- so many rows are there of a column that is as long as another
 part : (xs : List ℕ) (n m : ℕ) → length xs ≡ m → n ≤ m → n ≡ length (take n xs)
@@ -25,13 +25,13 @@ part xs n m e h = sym (length-take-le n xs (omega (arith, e, h)))
 pub returns-in_err-refusal-clause-left : goal.returns-in_err-refusal-clause-left
 returns-in_err-refusal-clause-left c =
     let a = c.args in
-    let t = refused-call a.told a.counters a.media.now a.copy.now (log_seen a.log.now) (marks_seen a.marks.now) (entered_in a.entries.now) _ c.entries_uneven-uneven.ensures _ c.in_err-refusal.ensures in
+    let t = refused-call a.told a.counters a.media.now a.copy.now (log_seen a.log.now) (marks_seen a.marks.now) (entered_in a.entries.now) _ c.uneven-uneven.ensures _ c.in_err-refusal.ensures in
     search rules
 
 pub returns-clause-left : goal.returns-clause-left
 returns-clause-left c =
     let a = c.args in
-    derived-call a.told a.counters a.media.now a.copy.now (log_seen a.log.now) (marks_seen a.marks.now) (entered_in a.entries.now) _ c.entries_uneven-uneven.ensures c.in_ok-refusal.ensures
+    derived-call a.told a.counters a.media.now a.copy.now (log_seen a.log.now) (marks_seen a.marks.now) (entered_in a.entries.now) _ c.uneven-uneven.ensures c.in_ok-refusal.ensures
     _ c.outstanding.ensures _ c.last_barrier.ensures _ c.derive.ensures.left
 
 pub outstanding-requires : goal.outstanding-requires

@@ -1,16 +1,25 @@
 -- `oracle::verify_oracle` meets its contract: it refuses what the columns' own test refuses, and judges the rest. Assumes nothing.
-use Rattle.std.proofs.Common.{sym, ◌∙◌}
+use Rattle.std.proofs.Common.{rules}
 use Rattle.oracle.proofs.Say.{refused-12, long-states, long-torn, judged-is}
 use Rattle.oracle.proofs.verify_oracle.Goals as goal
 
-pub returns-then-is_err : goal.returns-then-is_err
-returns-then-is_err c = refused-12 c.args.ledger.now.ids.now c.args.ledger.now.states.now c.args.ledger.now.torn.now c.args.history.now c.args.dispatched.now c.args.banks c.refusal.result c.refusal.ensures (sym c.is_err.ensures.value ∙ c.if-is_err.true)
+pub returns-in_err-map_err : goal.returns-in_err-map_err
+returns-in_err-map_err c =
+    let l = c.args.ledger.now in
+    let t = refused-12 l.ids.now l.states.now l.torn.now c.args.history.now c.args.dispatched.now c.args.banks c.refusal.result c.map_err.result _ c.refusal.ensures c.map_err.ensures.cases (λ n x q. search rules) _ c.in_err-map_err.was in
+    search rules
 
-pub judged-requires : goal.judged-requires
-judged-requires c = (
-  long-states c.args.ledger.now.ids.now c.args.ledger.now.states.now c.args.ledger.now.torn.now c.args.history.now c.args.dispatched.now c.args.banks c.refusal.result c.refusal.ensures (sym c.is_err.ensures.value ∙ c.if-is_err.false),
-  long-torn c.args.ledger.now.ids.now c.args.ledger.now.states.now c.args.ledger.now.torn.now c.args.history.now c.args.dispatched.now c.args.banks c.refusal.result c.refusal.ensures (sym c.is_err.ensures.value ∙ c.if-is_err.false),
-)
+pub invariant_of-entries : goal.invariant_of-entries
+invariant_of-entries c =
+    let l = c.args.ledger.now in
+    record {
+      even = (
+        long-states l.ids.now l.states.now l.torn.now c.args.history.now c.args.dispatched.now c.args.banks c.refusal.result c.map_err.result _ c.refusal.ensures c.map_err.ensures.cases (λ n x q. search rules) c.in_ok-map_err.was,
+        long-torn l.ids.now l.states.now l.torn.now c.args.history.now c.args.dispatched.now c.args.banks c.refusal.result c.map_err.result _ c.refusal.ensures c.map_err.ensures.cases (λ n x q. search rules) c.in_ok-map_err.was,
+      );
+    }
 
 pub returns : goal.returns
-returns c = judged-is c.args.ledger.now.ids.now c.args.ledger.now.states.now c.args.ledger.now.torn.now c.args.history.now c.args.dispatched.now c.args.banks c.refusal.result c.refusal.ensures (sym c.is_err.ensures.value ∙ c.if-is_err.false) c.judged.result c.judged.ensures
+returns c =
+    let l = c.args.ledger.now in
+    judged-is l.ids.now l.states.now l.torn.now c.args.history.now c.args.dispatched.now c.args.banks c.refusal.result c.map_err.result _ c.refusal.ensures c.map_err.ensures.cases (λ n x q. search rules) c.in_ok-map_err.was c.judged.result c.judged.ensures

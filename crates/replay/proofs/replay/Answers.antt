@@ -1,5 +1,5 @@
 -- `replay::replay` meets its contract: refused, or the rows run and the ledger derived. Assumes nothing.
-use mathlib.Core.Path.{refl}
+use mathlib.Core.Path.{refl, ◌∙◌}
 use Rattle.std.proofs.Common.{rules}
 use Rattle.refusals.specs.Nonzero.{refusal-nonzero}
 use Rattle.session.specs.Log.{log_of, marks_of}
@@ -7,7 +7,7 @@ use Rattle.ledger.specs.Ledger.{entered_in}
 use Rattle.script.specs.Lent.{columns_seen}
 use Rattle.replay.specs.Replay.{Lent, lent}
 use Rattle.replay.specs.Sized.{Sized}
-use Rattle.replay.proofs.Whole.{replay-refuses, never-refused, replay-runs}
+use Rattle.replay.proofs.Whole.{asked-number, replay-refuses, never-refused, replay-runs}
 use Rattle.replay.proofs.replay.Goals as goal
 use Rattle.replay.proofs.replay.Goals.{Start}
 
@@ -34,15 +34,15 @@ sized c = record {
 pub returns-in_err-rows_refusal-clause-left : goal.returns-in_err-rows_refusal-clause-left
 returns-in_err-rows_refusal-clause-left c =
     let before = all (goal.at.returns-in_err-rows_refusal-clause-left c).Start in
-    let t = replay-refuses c.args.told c.args.rows (columns_seen c.args.calls.now) before _ _ c.begins_taken.ensures c.in_err-rows_refusal.ensures (refusal-nonzero _) in
+    let t = replay-refuses c.args.told c.args.rows (columns_seen c.args.calls.now) before _ _ c.begins_taken.ensures (c.in_err-rows_refusal.ensures ∙ asked-number c.args.told c.args.rows (columns_seen c.args.calls.now) before _ _ c.uneven.ensures) (refusal-nonzero _) in
     search rules
 
 pub returns-in_err-fresh-clause-left : goal.returns-in_err-fresh-clause-left
 returns-in_err-fresh-clause-left c =
     let at = (goal.at.returns-in_err-fresh-clause-left c).Start in
-    absurd (never-refused c.args.told c.args.rows (columns_seen c.args.calls.now) (all at) _ _ c.begins_taken.ensures c.in_ok-rows_refusal.ensures refl (sized at) _ _ c.in_err-fresh.ensures)
+    absurd (never-refused c.args.told c.args.rows (columns_seen c.args.calls.now) (all at) _ _ c.begins_taken.ensures (c.in_ok-rows_refusal.ensures ∙ asked-number c.args.told c.args.rows (columns_seen c.args.calls.now) (all at) _ _ c.uneven.ensures) refl (sized at) _ _ c.in_err-fresh.ensures)
 
 pub returns-clause-left : goal.returns-clause-left
 returns-clause-left c =
     let at = (goal.at.returns-clause-left c).Start in
-    replay-runs c.args.told c.args.rows (columns_seen c.args.calls.now) (all at) _ _ c.begins_taken.ensures c.in_ok-rows_refusal.ensures refl (sized at) _ _ c.in_ok-fresh.ensures _ _ _ _ _ _ c.run_ledgered-derived.ensures.left _ _ c.run_ledgered-derived.ensures.derived
+    replay-runs c.args.told c.args.rows (columns_seen c.args.calls.now) (all at) _ _ c.begins_taken.ensures (c.in_ok-rows_refusal.ensures ∙ asked-number c.args.told c.args.rows (columns_seen c.args.calls.now) (all at) _ _ c.uneven.ensures) refl (sized at) _ _ c.in_ok-fresh.ensures _ _ _ _ _ _ c.run_ledgered-derived.ensures.left _ _ c.run_ledgered-derived.ensures.derived

@@ -1,4 +1,5 @@
 -- `run_lines::run_on` meets its contract: every part lent is there. Assumes nothing.
+use native.Mathlib.Omega.{arith}
 use Rattle.ledger.specs.Ledger.{entered_of}
 use Rattle.script.specs.Lent.{columns_seen}
 use Rattle.run_lines.proofs.Parts.{on-part}
@@ -6,4 +7,5 @@ use Rattle.run_lines.proofs.run_on.Goals as goal
 
 pub returns : goal.returns
 returns c =
-    on-part c.args.head c.args.armed c.args.rows (columns_seen c.args.calls.now) c.args.media.now c.args.copy.now (entered_of c.args.ids.now c.args.states.now c.args.torn.now) c.requires.0 c.requires.1 _ c.lower-capacity.ensures.0 _ _ _ _ _ _ _ c.run_one.ensures
+    let w = c.args.writer.now in
+    on-part w.head c.args.armed w.rows (columns_seen w.calls) c.args.media.now c.args.copy.now (entered_of c.args.entries.now.ids c.args.entries.now.states c.args.entries.now.torn) (omega arith) (omega arith) _ c.lower-capacity.ensures.0 _ _ _ _ _ _ _ c.run_one.ensures

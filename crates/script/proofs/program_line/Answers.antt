@@ -9,8 +9,8 @@ returns-in_err-offset c = search (rules, letters)
 pub returns-in_err-count : goal.returns-in_err-count
 returns-in_err-count c = search (rules, letters)
 
-pub returns-then-count-gt4096 : goal.returns-then-count-gt4096
-returns-then-count-gt4096 c = search (rules, letters)
+pub returns-then-count-gt-MOST_PROGRAM : goal.returns-then-count-gt-MOST_PROGRAM
+returns-then-count-gt-MOST_PROGRAM c = search (rules, letters)
 
 pub returns : goal.returns
 returns c = search (rules, letters)

@@ -14,4 +14,4 @@ returns-in_err-start_refusal c =
     search rules
 
 pub returns : goal.returns
-returns c = start-taken _ _ _ _ _ _ c.in_ok-start_refusal.ensures refl _ c.fill_erased.ensures
+returns c = rw c.fresh.ensures (start-taken _ _ _ _ _ _ c.in_ok-start_refusal.ensures refl _ c.fill_erased.ensures)

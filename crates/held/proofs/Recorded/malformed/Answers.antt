@@ -5,4 +5,4 @@ use Rattle.held.proofs.Recorded.malformed.Goals as goal
 
 pub returns : goal.returns
 unfolding malformed
-returns c = rw (c.known-kinds_known.ensures, c.known-codes_known.ensures) refl
+returns c = rw (c.uneven.ensures, c.known-kinds_known.ensures, c.known-codes_known.ensures) refl

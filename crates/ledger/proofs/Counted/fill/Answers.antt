@@ -12,7 +12,7 @@ loop-at-preserved c =
     record {
       few = omega (arith, e.more, i.few);
       same = (e.same.0 ∙ i.same.0, e.same.1 ∙ i.same.1, e.same.2 ∙ i.same.2);
-      rest = sym (fill-next s.facts s.kinds.now s.changed.now s.codes.now s.ids.now s.places.now s.even.0 s.even.1 c.loop-at.at c.loop-at-test.true _ _ e.left) ∙ i.rest;
+      rest = sym (fill-next s.facts s.kinds.now s.changed.now s.marks.codes.now s.marks.ids.now s.marks.places.now s.even.0 s.even.1 c.loop-at.at c.loop-at-test.true _ _ e.left) ∙ i.rest;
     }
 
 pub returns : goal.returns
@@ -21,5 +21,5 @@ returns c =
     let i = c.loop-at.invariant in
     record {
       same = i.same;
-      left = sym (fill_end s.facts s.kinds.now s.changed.now s.codes.now s.ids.now s.places.now s.even.0 s.even.1 c.loop-at.at c.loop-at-test.false _) ∙ i.rest;
+      left = sym (fill_end s.facts s.kinds.now s.changed.now s.marks.codes.now s.marks.ids.now s.marks.places.now s.even.0 s.even.1 c.loop-at.at c.loop-at-test.false _) ∙ i.rest;
     }

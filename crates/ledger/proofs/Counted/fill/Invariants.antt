@@ -11,6 +11,6 @@ abbrev pub invariant-loop-at : goal.invariant-loop-at
 invariant-loop-at l = record {
   few : l.n ≤ l.at;
   same : SameLedger l.initial.entries l.entries;
-  rest : fill_from l.self.facts l.self.kinds.now l.self.changed.now (drop l.at l.self.codes.now) (drop l.at l.self.ids.now) (drop l.at l.self.places.now) (filled l.n (entered_in l.entries))
-      ≡ fill_from l.self.facts l.self.kinds.now l.self.changed.now l.self.codes.now l.self.ids.now l.self.places.now (filled 0 (entered_in l.initial.entries));
+  rest : fill_from l.self.facts l.self.kinds.now l.self.changed.now (drop l.at l.self.marks.codes.now) (drop l.at l.self.marks.ids.now) (drop l.at l.self.marks.places.now) (filled l.n (entered_in l.entries))
+      ≡ fill_from l.self.facts l.self.kinds.now l.self.changed.now l.self.marks.codes.now l.self.marks.ids.now l.self.marks.places.now (filled 0 (entered_in l.initial.entries));
 }

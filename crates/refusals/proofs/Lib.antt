@@ -1,0 +1,2 @@
+-- What is proved of the refusals' numbers. Assumes nothing.
+pub mod Numbers
