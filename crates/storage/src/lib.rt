@@ -93,10 +93,10 @@ impl Geometry {
         if (capacity == 0) | (erase == 0) | (program == 0) | (read == 0) {
             return Err(GeometryError::ZeroUnit);
         }
-        let erase_power = erase.is_power_of_two();
-        let program_power = program.is_power_of_two();
-        let read_power = read.is_power_of_two();
-        if !erase_power | !program_power | !read_power {
+        let erase_ones = u32::count_ones(erase);
+        let program_ones = u32::count_ones(program);
+        let read_ones = u32::count_ones(read);
+        if (erase_ones != 1) | (program_ones != 1) | (read_ones != 1) {
             return Err(GeometryError::UnitIsNotAPowerOfTwo);
         }
         let whole_blocks = is_multiple(capacity, erase);
@@ -110,7 +110,7 @@ impl Geometry {
     pub fn erase_blocks(self) -> Result<u32, GeometryError>
         ensures { numbered number_of result ≡ blocks_of self }
     {
-        self.check()?;
+        Geometry::check(self)?;
         Ok(self.capacity / self.erase_size)
     }
 

@@ -6,15 +6,15 @@ use Rattle.storage.proofs.Geometry.check.Goals as goal
 pub returns-then-capacity-erase : goal.returns-then-capacity-erase
 returns-then-capacity-erase c = sym (refused-zero c.args.self c.if-capacity-erase.true)
 
-pub returns-then-erase_power-program_power : goal.returns-then-erase_power-program_power
-returns-then-erase_power-program_power c = sym (refused-power c.args.self c.if-capacity-erase.false (rw (c.is_power_of_two-erase_power.ensures, c.is_power_of_two-program_power.ensures, c.is_power_of_two-read_power.ensures) at c.if-erase_power-program_power.true))
+pub returns-then-erase_ones-program_ones : goal.returns-then-erase_ones-program_ones
+returns-then-erase_ones-program_ones c = sym (refused-power c.args.self c.if-capacity-erase.false c.if-erase_ones-program_ones.true)
 
 pub returns-then-whole_blocks-erase : goal.returns-then-whole_blocks-erase
 returns-then-whole_blocks-erase c =
-    sym (refused-nesting c.args.self c.if-capacity-erase.false (rw (c.is_power_of_two-erase_power.ensures, c.is_power_of_two-program_power.ensures, c.is_power_of_two-read_power.ensures) at c.if-erase_power-program_power.false)
+    sym (refused-nesting c.args.self c.if-capacity-erase.false c.if-erase_ones-program_ones.false
     (rw c.is_multiple-whole_blocks.ensures at c.if-whole_blocks-erase.true))
 
 pub returns : goal.returns
 returns c =
-    sym (accepted c.args.self c.if-capacity-erase.false (rw (c.is_power_of_two-erase_power.ensures, c.is_power_of_two-program_power.ensures, c.is_power_of_two-read_power.ensures) at c.if-erase_power-program_power.false)
+    sym (accepted c.args.self c.if-capacity-erase.false c.if-erase_ones-program_ones.false
     (rw c.is_multiple-whole_blocks.ensures at c.if-whole_blocks-erase.false))
