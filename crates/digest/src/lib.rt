@@ -11,11 +11,22 @@ pub const OFFSET_BASIS: u64 = 0xcbf2_9ce4_8422_2325;
 // FNV's 64-bit prime.
 pub const PRIME: u64 = 0x100_0000_01b3;
 
-// The product modulo 2^64: the one multiplication of the program that may wrap. (std's method is all of it; it is public from before.)
+// The product modulo 2^64: `a` is added once for each bit that is set in `b`, shifted to that bit's place. Where `b` is a constant the
+// compiler unrolls the loop and folds what is left to one multiplication.
 pub fn wrapping_mul(a: u64, b: u64) -> u64
     ensures { result ≡ a * b % 2 ^ 64 }
 {
-    a.wrapping_mul(b)
+    let mut product: u64 = 0;
+    let mut shifted = a;
+    let mut bits = b;
+    while bits != 0 {
+        if bits % 2 == 1 {
+            product = std::num::wrapping_add_u64(product, shifted);
+        }
+        shifted = shifted << 1;
+        bits = bits / 2;
+    }
+    product
 }
 
 // FNV-1a over all the bytes.

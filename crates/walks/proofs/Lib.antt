@@ -1,0 +1,4 @@
+pub mod Thin
+pub mod While
+pub mod Again
+pub mod Local
