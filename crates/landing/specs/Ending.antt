@@ -32,3 +32,12 @@ abbrev pub stop_number : Stop → ℕ
 stop_number Running = 0
 stop_number PowerLost = 21
 stop_number CoreReset = 22
+
+-- where the code's table has each ending
+abbrev pub row_of : Interruption → (completed : Bool) → ℕ
+row_of PowerLoss false = 0
+row_of PowerLoss true = 1
+row_of Watchdog false = 2
+row_of Watchdog true = 3
+row_of Failure false = 4
+row_of Failure true = 5
