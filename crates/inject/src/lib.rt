@@ -221,7 +221,7 @@ impl Op {
     }
 }
 
-// A row's points under an interruption, by the row's numbers. (No crate here calls it; it was public before `group_at`.)
+// A row's points under an interruption, by the row's numbers.
 pub fn group_of(kind: u8, offset: u32, len: u32, geometry: Geometry, cause: Interruption) -> Group
     ensures { GroupOf geometry cause (op_of kind offset len) result }
 {
@@ -319,7 +319,7 @@ impl OpsRef<'_> {
         geometry.check()?;
         let operations = self.kinds.len();
         let even = (operations == self.offsets.len()) & (operations == self.lens.len()) & equal;
-        if !even | !all_known(self.kinds) {
+        if !even || !all_known(self.kinds) {
             return Err(Refusal::MalformedColumns);
         }
         if operations > MOST {
