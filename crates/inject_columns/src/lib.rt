@@ -111,7 +111,14 @@ impl PointsMut<'_> {
     {
         let mut next = at;
         for i in 0..sequence.ops.kinds.len() {
-            let group = sequence.group_at(i, cause);
+            let ops = &sequence.ops;
+            let group = inject::group_of(
+                ops.kinds[i],
+                ops.offsets[i],
+                ops.lens[i],
+                sequence.geometry,
+                cause,
+            );
             next = self.write_group(group, i, cause, next);
         }
         next

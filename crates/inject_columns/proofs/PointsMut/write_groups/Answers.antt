@@ -13,7 +13,7 @@ write_group-next-requires c =
     let l = c.loop-i in let s = c.args.sequence.now in (
       omega (arith, (sound s).few),
       walk-room s.geometry c.args.cause _ _ _ (sound s) l.i c.loop-i-test.true
-          c.group_at-group.result c.group_at-group.ensures _ _ c.requires _ _ l.invariant.1 l.invariant.2,
+          c.group_of-group.result c.group_of-group.ensures _ _ c.requires _ _ l.invariant.1 l.invariant.2,
     )
 
 pub loop-i-preserved : goal.loop-i-preserved
@@ -22,7 +22,7 @@ loop-i-preserved c =
       search rules,
       kept_trans _ _ _ l.invariant.1 (kept _ _ _ _ _ c.write_group-next.ensures.written),
       walk_more s.geometry c.args.cause _ _ _ (sound s) l.i c.loop-i-test.true
-          c.group_at-group.result c.group_at-group.ensures _ _ _ _ c.write_group-next.ensures.written
+          c.group_of-group.result c.group_of-group.ensures _ _ _ _ c.write_group-next.ensures.written
           ∙ l.invariant.2,
     )
 
