@@ -77,12 +77,16 @@ impl LedgerRef<'_> {
     pub fn refusal(&self) -> Result<(), Refusal>
         ensures { number_in number_of result ≡ refused self.now.ids.now self.now.states.now self.now.torn.now }
     {
-        let equal = !self.uneven();
-        if equal & all_up_to(self.states, 2) & all_up_to(self.torn, 1) {
-            Ok(())
-        } else {
-            Err(Refusal::MalformedColumns)
+        if self.uneven() {
+            return Err(Refusal::MalformedColumns);
         }
+        if !all_up_to(self.states, 2) {
+            return Err(Refusal::MalformedColumns);
+        }
+        if !all_up_to(self.torn, 1) {
+            return Err(Refusal::MalformedColumns);
+        }
+        Ok(())
     }
 
     // How many records the run declared.
