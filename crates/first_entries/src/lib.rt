@@ -17,10 +17,10 @@ pub fn state(ledger: &LedgerRef<'_>, id: u32) -> Result<Option<Durability>, Refu
     ensures { numbered number_of result ≡ state_asked ledger.now.ids.now ledger.now.states.now ledger.now.torn.now id }
 {
     ledger.refusal()?;
-    let Some(at) = id_columns::first_place(ledger.ids, id) else {
-        return Ok(None);
-    };
-    Ok(Some(Durability::from(ledger.states[at])))
+    match id_columns::first_place(ledger.ids, id) {
+        None => Ok(None),
+        Some(at) => Ok(Some(Durability::from(ledger.states[at]))),
+    }
 }
 
 // Whether some of `id`'s bytes are on media and the rest are not, by its first entry. Never so where the state is attempted.

@@ -8,11 +8,11 @@ returns-in_err-refusal c =
     let l = c.args.ledger.now in
     let t = state-refused l.ids.now l.states.now l.torn.now c.args.id _ c.in_err-refusal.ensures in search rules
 
-pub returns-in_default : goal.returns-in_default
-returns-in_default c = search (rules, asked)
+pub returns-in-None : goal.returns-in-None
+returns-in-None c = search (rules, asked)
 
 pub bounds-ledger-at : goal.bounds-ledger-at
 bounds-ledger-at c = search (rules, asked)
 
-pub returns : goal.returns
-returns c = search (rules, asked)
+pub returns-in-Some : goal.returns-in-Some
+returns-in-Some c = search (rules, asked)
