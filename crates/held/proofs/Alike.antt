@@ -2,7 +2,7 @@
 --     same-lengths, same_true, same_self, same-pointwise   of lists that are not as long, that are equal, and as `==` compares them
 --     op-true, op_self, op-eq                              two operations that are alike are one
 --     mark-true, mark-self, mark-eq                        and two marks
---     row_of, ops-given                                    a run's operations, as an iterator over the rows gives them
+--     row_of, through-length, ops-given                    a run's operations: how many, and as an iterator over the rows gives them
 -- Assumes nothing.
 use mathlib.Core.Path.{◌≡◌, refl, sym, ap, ◌∙◌}
 use mathlib.Core.Bool.{Bool, true, false, ◌&&◌, true≢false}
@@ -185,7 +185,7 @@ module _ (t : ℕ) (x : Recorded) (w : Fits x) where
   kinds-length : length (take (end_of t x) x.kinds) ≡ end_of t x
   kinds-length = length-take-le (end_of t x) x.kinds within
 
-  through-length : length (ops_through t x) ≡ end_of t x
+  pub through-length : length (ops_through t x) ≡ end_of t x
   through-length = ops-length _ _ _ (cut x.offsets w.offsets) (cut x.lens w.lens) ∙ kinds-length
 
   through-at : (i : ℕ) → i < end_of t x → get_or (ops_through t x) i Barrier ≡ row_of x i

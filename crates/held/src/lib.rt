@@ -118,8 +118,13 @@ impl Sound<'_> {
 fn same_ops(free: &Sound<'_>, run: &Sound<'_>, op: usize) -> bool
     ensures { result ≡ same same_op (ops_through (suc op) (recorded_in free.now.recorded)) (ops_through (suc op) (recorded_in run.now.recorded)) }
 {
-    let free_ops = (0..free.end_of(op)).map(|at| free.recorded.ops.op_at(at));
-    let ops = (0..run.end_of(op)).map(|at| run.recorded.ops.op_at(at));
+    let free_end = free.end_of(op);
+    let end = run.end_of(op);
+    if free_end != end {
+        return false;
+    }
+    let free_ops = (0..free_end).map(|at| free.recorded.ops.op_at(at));
+    let ops = (0..end).map(|at| run.recorded.ops.op_at(at));
     free_ops.eq(ops)
 }
 
