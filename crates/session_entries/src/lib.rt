@@ -9,7 +9,7 @@ ghost use Rattle.std.specs.Prelude.{◌≡◌, length, set};
 ghost use Rattle.basics.specs.Replies.{number_in, numbered};
 ghost use Rattle.refusals.specs.Numbers.{number_of};
 ghost use Rattle.session.specs.Lent.{log_seen};
-ghost use Rattle.session_entries.specs.Entries.{row_of, place_test, entry_at, moved_number, entries_number, to_entries};
+ghost use Rattle.session_entries.specs.Entries.{row_of, place_test, entry_at, moved_test, moved_number, entries_number, to_entries};
 
 use basics::cell;
 use refusals::{Refusal, columns_refusal};
@@ -47,12 +47,42 @@ fn row_of(log: &LogRef<'_>, index: usize) -> Entry
     }
 }
 
-// Whether `rows` rows may be handed to a place with room for `room`: 12 where the columns are unequal, then 13 where there is too
-// little room.
+// Whether `rows` rows may be handed to a place with room for `room`, over the columns' lengths: 12 where they are unequal, then 13
+// where there is too little room.
+pub fn moved_lengths(
+    kinds: usize,
+    offsets: usize,
+    lens: usize,
+    digests: usize,
+    changed: usize,
+    answered: usize,
+    rows: usize,
+    room: usize,
+) -> Result<(), Refusal>
+    ensures { number_in number_of result ≡ moved_test kinds offsets lens digests changed answered rows room }
+{
+    let uneven = (offsets != kinds)
+        | (lens != kinds)
+        | (digests != kinds)
+        | (changed != kinds)
+        | (answered != kinds);
+    columns_refusal(uneven, room < rows)
+}
+
+// The same over the columns.
 pub fn moved_number(log: &LogRef<'_>, rows: usize, room: usize) -> Result<(), Refusal>
     ensures { number_in number_of result ≡ moved_number (log_seen log.now) rows room }
 {
-    columns_refusal(log.uneven(), room < rows)
+    moved_lengths(
+        log.kinds.len(),
+        log.offsets.len(),
+        log.lens.len(),
+        log.digests.len(),
+        log.changed.len(),
+        log.answered.len(),
+        rows,
+        room,
+    )
 }
 
 // Hands a session's log on as entries: each row of the columns becomes the entry at its index. Refused with 12 or 13 as the
