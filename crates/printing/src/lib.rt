@@ -5,14 +5,16 @@
 // system's own standard input and output give and take.
 #![tactic(auto)]
 
-ghost use Rattle.std.specs.Prelude.{◌≡◌, ◌≢◌, true, ◌≤◌, length, take, drop, IfOk};
+ghost use Rattle.std.specs.Prelude.{◌≡◌, ◌≢◌, Bool, true, false, ◌≤◌, length, take, drop, IfOk};
 ghost use Rattle.std.specs.Io.KnownBytes.{Consumes, IsAtEnd, ReadConsumes, WriteAppends};
 ghost use Rattle.text_of_runs.specs.Printout.{sweep_lines, judge_lines};
-ghost use Rattle.text_parts.specs.Parts.{lines_for};
+ghost use Rattle.text_parts.specs.Parts.{part_as, part_left, part_of, lines_for};
 ghost use Rattle.printing.specs.Output.{printed_of, FrontOf, Written};
 
+use refusals::Refusal;
 use run_lines::{Judged, Program, Swept};
 use std::io::{self, ErrorKind, Read, Write};
+use std::marker::PhantomData;
 use text_parts::Part;
 
 // One byte more than the longest script (`script` `MOST_TEXT`) has: enough to know that a text is too long.
@@ -78,6 +80,41 @@ pub fn input_ended<R: Read>(rt: &impl Eprint, input: &mut R, taken: usize) -> bo
     false
 }
 
+// A program's text, by what gives its part from a line on.
+trait InParts {
+    ghost judged: { Bool };
+
+    fn part(text: &[u8], from: u64, out: &mut [u8]) -> Result<Part, Refusal>
+        ensures { part_left (part_as result) out.new ≡ part_of (drop from (lines_for judged text.now)) out.old };
+}
+
+impl InParts for Swept {
+    ghost judged = { false };
+
+    fn part(text: &[u8], from: u64, out: &mut [u8]) -> Result<Part, Refusal> {
+        text_parts::sweep_part(text, from, out)
+    }
+}
+
+impl InParts for Judged {
+    ghost judged = { true };
+
+    fn part(text: &[u8], from: u64, out: &mut [u8]) -> Result<Part, Refusal> {
+        text_parts::judge_part(text, from, out)
+    }
+}
+
+// Any program, by its line alone.
+struct Any<P>(PhantomData<P>);
+
+impl<P: Program> InParts for Any<P> {
+    ghost judged = { P.judged };
+
+    fn part(text: &[u8], from: u64, out: &mut [u8]) -> Result<Part, Refusal> {
+        text_parts::part_of::<P>(text, from, out)
+    }
+}
+
 // One write, made again where a signal interrupts it. (As `read_some`: one function for both would need a trait of its own, and two
 // promises in it.)
 fn write_some<W: Write>(to: &mut W, bytes: &[u8]) -> io::Result<usize>
@@ -116,8 +153,8 @@ fn hand_over<W: Write>(rt: &impl Eprint, to: &mut W, bytes: &[u8]) -> bool
     true
 }
 
-// Prints one program's text for a script up to the first part that is not taken: no run is made for nobody.
-pub fn print<P: Program, W: Write>(rt: &impl Eprint, to: &mut W, text: &[u8]) -> Printed
+// Prints a program's text for a script up to the first part that is not taken: no run is made for nobody.
+fn print_parts<P: InParts, W: Write>(rt: &impl Eprint, to: &mut W, text: &[u8]) -> Printed
     ensures told { (result.lines ≤ length (lines_for P.judged text.now)) × (result ≡ printed_of (lines_for P.judged text.now) result.lines) }
     ensures written { Written (lines_for P.judged text.now) result (W.contents to.old) (W.contents to.new) }
 {
@@ -125,7 +162,7 @@ pub fn print<P: Program, W: Write>(rt: &impl Eprint, to: &mut W, text: &[u8]) ->
     let mut from: u64 = 0;
     let mut printed: u64 = 0;
     loop {
-        let Ok(Part { lines, bytes, left }) = text_parts::part_of::<P>(text, from, &mut out) else {
+        let Ok(Part { lines, bytes, left }) = P::part(text, from, &mut out) else {
             // Never taken: there is room for every line.
             return Printed {
                 lines: 0,
@@ -154,12 +191,20 @@ pub fn print<P: Program, W: Write>(rt: &impl Eprint, to: &mut W, text: &[u8]) ->
     }
 }
 
+// Prints any program's text for a script.
+pub fn print<P: Program, W: Write>(rt: &impl Eprint, to: &mut W, text: &[u8]) -> Printed
+    ensures told { (result.lines ≤ length (lines_for P.judged text.now)) × (result ≡ printed_of (lines_for P.judged text.now) result.lines) }
+    ensures written { Written (lines_for P.judged text.now) result (W.contents to.old) (W.contents to.new) }
+{
+    print_parts::<Any<P>, W>(rt, to, text)
+}
+
 // Prints every run of a script with its ledger, or what refuses it.
 pub fn print_sweep<W: Write>(rt: &impl Eprint, to: &mut W, text: &[u8]) -> Printed
     ensures told { (result.lines ≤ length (sweep_lines text.now)) × (result ≡ printed_of (sweep_lines text.now) result.lines) }
     ensures written { Written (sweep_lines text.now) result (W.contents to.old) (W.contents to.new) }
 {
-    print::<Swept, W>(rt, to, text)
+    print_parts::<Swept, W>(rt, to, text)
 }
 
 // Prints every run of a script with the verdict on its suggested history, or what refuses it.
@@ -167,5 +212,5 @@ pub fn print_judge<W: Write>(rt: &impl Eprint, to: &mut W, text: &[u8]) -> Print
     ensures told { (result.lines ≤ length (judge_lines text.now)) × (result ≡ printed_of (judge_lines text.now) result.lines) }
     ensures written { Written (judge_lines text.now) result (W.contents to.old) (W.contents to.new) }
 {
-    print::<Judged, W>(rt, to, text)
+    print_parts::<Judged, W>(rt, to, text)
 }

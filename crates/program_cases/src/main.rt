@@ -4,8 +4,25 @@
 //     (tests/differential/run sample sweep; tests/differential/run sample judge) > crates/program_cases/stdout
 #![tactic(auto)]
 
-use run_lines::{Judged, Program, Swept};
+use run_lines::{Judged, Swept};
 use std::io;
+
+// One of the two programs, by what it prints for a script.
+trait Program {
+    fn print(rt: &(impl Print + Eprint), text: &[u8]);
+}
+
+impl Program for Swept {
+    fn print(rt: &(impl Print + Eprint), text: &[u8]) {
+        printing::print_sweep(rt, &mut io::writer(rt), text);
+    }
+}
+
+impl Program for Judged {
+    fn print(rt: &(impl Print + Eprint), text: &[u8]) {
+        printing::print_judge(rt, &mut io::writer(rt), text);
+    }
+}
 
 // A byte of a text; a tab, an LF and a CR as they are written in a program.
 fn print_byte(rt: &impl Print, byte: u8) -> io::Result<()> {
@@ -37,7 +54,7 @@ fn show(rt: &impl Print, text: &[u8]) -> io::Result<()> {
 // A script, and what one of the programs prints for it.
 fn script_case<P: Program>(rt: &(impl Print + Eprint), text: &[u8]) -> io::Result<()> {
     show(rt, text)?;
-    printing::print::<P, _>(rt, &mut io::writer(rt), text);
+    P::print(rt, text);
     Ok(())
 }
 
