@@ -1,5 +1,5 @@
-// The two forms by reference, through callers that have what they lend in a local. The device is 16/8/4/4, with a power loss armed on
-// the second operation, before it runs.
+// The two forms by reference, through callers with plain parameters, each of which has what it lends in a local. The device is
+// 16/8/4/4, with a power loss armed on the second operation, before it runs.
 // Three lines of barriers on lent counters: the answer, the count of operations after it, and the first free or last written row:
 // kind, offset, length, digest, changed, answered. The first barrier answers 0 and acknowledges, the second is cut and answers 21,
 // the third is refused with 21 and changes nothing: its row is empty.
@@ -59,7 +59,16 @@ fn step(
     log: &mut LogMut<'_>,
     index: usize,
 ) -> io::Result<Counters> {
-    let called = session_lent::barrier_once(told(), counters, log);
+    let called = session_lent::barrier_once(
+        told(),
+        counters,
+        log.kinds,
+        log.offsets,
+        log.lens,
+        log.digests,
+        log.changed,
+        log.answered,
+    );
     let answer = number_in(called.answer);
     let operations = called.counters.operations;
     print!(rt; "{answer} {operations} ")?;
@@ -79,7 +88,18 @@ fn erased() -> Entry {
 }
 
 fn ask(rt: &impl Print, log: &LogRef<'_>, at: usize, index: usize) -> io::Result<()> {
-    match session_entries_local::entry_with(log, at, erased(), index) {
+    let found = session_entries_local::entry_with(
+        log.kinds,
+        log.offsets,
+        log.lens,
+        log.digests,
+        log.changed,
+        log.answered,
+        at,
+        erased(),
+        index,
+    );
+    match found {
         Ok(entry) => {
             print!(rt; "0 ")?;
             show_entry(rt, entry)
@@ -121,7 +141,16 @@ fn ask_long(rt: &impl Print) -> io::Result<()> {
 }
 
 fn start(rt: &impl Print, log: &mut LogMut<'_>) -> io::Result<()> {
-    let answer = number_in(session_entries_local::start_with(erased(), log));
+    let started = session_entries_local::start_with(
+        erased(),
+        log.kinds,
+        log.offsets,
+        log.lens,
+        log.digests,
+        log.changed,
+        log.answered,
+    );
+    let answer = number_in(started);
     print!(rt; "{answer} ")?;
     show_row(rt, &log.seen(), 0)
 }

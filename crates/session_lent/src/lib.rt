@@ -7,6 +7,7 @@
 ghost use Rattle.std.specs.Prelude.{◌≡◌};
 ghost use Rattle.basics.specs.Replies.{number_in};
 ghost use Rattle.refusals.specs.Numbers.{number_of};
+ghost use Rattle.session.specs.Log.{log_of};
 ghost use Rattle.session.specs.Lent.{log_in, SameLog};
 ghost use Rattle.session.specs.Replies.{told_as};
 ghost use Rattle.session.specs.Barrier.{ordered, barriered};
@@ -32,12 +33,28 @@ pub fn barrier_lent(
 
 // A barrier on counters that it has in a local and lends: for a caller without a reference to lend, and the by-value barrier's
 // promise word for word.
-pub fn barrier_once(told: Told, counters: Counters, log: &mut LogMut<'_>) -> Called
-    ensures same { SameLog log.old log.new }
-    ensures left { ordered (told_as result) (log_in log.new) ≡ barriered told counters (log_in log.old) }
+pub fn barrier_once(
+    told: Told,
+    counters: Counters,
+    kinds: &mut [u8],
+    offsets: &mut [u32],
+    lens: &mut [u32],
+    digests: &mut [u64],
+    changed: &mut [u8],
+    answered: &mut [u8],
+) -> Called
+    ensures { ordered (told_as result) (log_of kinds.new offsets.new lens.new digests.new changed.new answered.new) ≡ barriered told counters (log_of kinds.old offsets.old lens.old digests.old changed.old answered.old) }
 {
     let mut held = counters;
-    let answer = barrier_lent(told, &mut held, log);
+    let mut log = LogMut {
+        kinds,
+        offsets,
+        lens,
+        digests,
+        changed,
+        answered,
+    };
+    let answer = barrier_lent(told, &mut held, &mut log);
     Called {
         answer,
         counters: held,

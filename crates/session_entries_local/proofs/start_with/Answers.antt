@@ -1,7 +1,8 @@
 -- `session_entries_local::start_with` meets its contract: the log in the local is the blank log with the entry stored. Assumes nothing.
+use Rattle.std.proofs.Common.{rules}
 use Rattle.session_entries_local.specs.Local.{blank_log}
 use Rattle.session_entries_local.proofs.start_with.Goals as goal
 
-pub returns-clause-left : goal.returns-clause-left
+pub returns : goal.returns
 unfolding blank_log
-returns-clause-left c = c.to_columns.ensures.left
+returns c = let t = c.to_columns.ensures.left in search rules
