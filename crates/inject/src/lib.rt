@@ -369,6 +369,15 @@ impl Sequence<'_> {
         self.ops.op_at(row).group(self.geometry, cause)
     }
 
+    // The same of a row that the list has: its three cells stand there, so none is asked for.
+    fn group_in(&self, row: usize, cause: Interruption) -> Group
+        requires { row < length self.now.ops.kinds.now }
+        ensures { GroupOf self.now.geometry cause (op_at self.now.ops.kinds.now self.now.ops.offsets.now self.now.ops.lens.now row) result }
+    {
+        let ops = self.ops;
+        op_of(ops.kinds[row], ops.offsets[row], ops.lens[row]).group(self.geometry, cause)
+    }
+
     // How many points the operations have under an interruption. (A loop, and no `map` and `sum`: that the
     // sum fits into a u64 is a fact of each step.)
     fn total(&self, cause: Interruption) -> u64
@@ -376,7 +385,7 @@ impl Sequence<'_> {
     {
         let mut sum: u64 = 0;
         for i in 0..self.ops.kinds.len() {
-            let group = self.group_at(i, cause);
+            let group = self.group_in(i, cause);
             sum += group.size();
         }
         sum
@@ -401,7 +410,7 @@ impl Sequence<'_> {
             return before;
         };
         for i in 0..self.ops.kinds.len() {
-            let group = self.group_at(i, cause);
+            let group = self.group_in(i, cause);
             let points = group.size();
             if left < points {
                 let progress = group.progress_at(left);

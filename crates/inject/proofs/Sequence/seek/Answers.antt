@@ -12,13 +12,13 @@ pub returns-then-left-points : goal.returns-then-left-points
 returns-then-left-points c =
     let l = c.loop-i in
     ap (λ (q : Progress). Ok (point l.i c.args.cause q)) c.progress_at-progress.ensures
-    ∙ sym (rest_in _ _ _ _ _ (sound c.args.self.now) _ c.loop-i-test.true _ c.group_at-group.ensures _
+    ∙ sym (rest_in _ _ _ _ _ (sound c.args.self.now) _ c.loop-i-test.true _ c.group_in-group.ensures _
     (rw c.size-points.ensures.0 at c.if-left-points.true))
     ∙ l.invariant
 
 pub loop-i-preserved : goal.loop-i-preserved
 loop-i-preserved c =
-    sym (rest-past _ _ _ _ _ (sound c.args.self.now) _ c.loop-i-test.true _ c.group_at-group.ensures _ _
+    sym (rest-past _ _ _ _ _ (sound c.args.self.now) _ c.loop-i-test.true _ c.group_in-group.ensures _ _
     c.size-points.ensures.0 c.if-left-points.false)
     ∙ c.loop-i.invariant
 

@@ -7,7 +7,7 @@ use Rattle.inject.proofs.Sequence.total.Goals as goal
 
 pub loop-i-preserved : goal.loop-i-preserved
 loop-i-preserved c =
-    let more = rest-length _ _ _ _ _ (sound c.args.self.now) _ c.loop-i-test.true _ c.group_at-group.ensures in
+    let more = rest-length _ _ _ _ _ (sound c.args.self.now) _ c.loop-i-test.true _ c.group_in-group.ensures in
     (omega arith, omega (arith, more, c.size-sum.ensures.0))
 
 pub returns : goal.returns
