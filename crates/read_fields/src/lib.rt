@@ -25,9 +25,7 @@ pub fn read_letter(text: &[u8], from: usize, end: u8) -> Option<(u8, usize)>
     Some((byte, from + 2))
 }
 
-// The field from `from` up to the first `end`, as a number: a u32, decimal, without leading zeros. One copy serves all callers:
-// laid in line in each of `script`'s, it cost 7 in 100 of the time of lines of every kind.
-#[inline(never)]
+// The field from `from` up to the first `end`, as a number: a u32, decimal, without leading zeros.
 pub fn read_number(text: &[u8], from: usize, end: u8) -> Option<(u32, usize)>
     ensures { result ≡ number_at from (field_to end (drop from text.now)) }
 {

