@@ -11,6 +11,7 @@ ghost use Rattle.refusals.specs.Numbers.{number_of};
 ghost use Rattle.script.specs.Lent.{columns_seen};
 ghost use Rattle.rows.specs.Rows.{any_outside, begins_from, lengths_number, contents_number, rows_number};
 
+use basics::lower;
 use refusals::Refusal;
 use script::CallsRef;
 use storage::Geometry;
@@ -39,12 +40,18 @@ fn is_outside(kind: u8, start: u32, len: u32, pool: usize) -> bool
     (kind == 0) & (pool < start as usize + len as usize)
 }
 
-// Whether some program's bytes are not all in a pool of this length, in the rows that all three columns have.
+// Whether some program's bytes are not all in a pool of this length, in the rows that all three columns have. Every row is looked at:
+// with no way out of the loop it is compiled to vectors.
 fn any_outside(kinds: &[u8], lens: &[u32], starts: &[u32], pool: usize) -> bool
     ensures { result ≡ any_outside pool kinds.now lens.now starts.now }
 {
-    let mut rows = kinds.iter().zip(lens).zip(starts);
-    rows.any(|((kind, len), start)| is_outside(*kind, *start, *len, pool))
+    let both = lower(kinds.len(), lens.len());
+    let rows = lower(both, starts.len());
+    let mut outside = false;
+    for i in 0..rows {
+        outside |= is_outside(kinds[i], starts[i], lens[i], pool);
+    }
+    outside
 }
 
 // What a run asks beside the rows: the highest kind that has a meaning in it, and whether other columns that it is lent are

@@ -72,11 +72,13 @@ pub fn run_rows(
     ensures left { left_of result answers.new media.new copy.new (log_in log.new) (marks_in marks.new) ≡ leaves (ran_rows told carries (session_of fresh media.old copy.old (log_in log.old) (marks_in marks.old)) (tasks_in rows (columns_seen calls.now))) answers.old }
 {
     let there = rows_there(rows, calls);
+    // A copy: what a row writes may, for all that the compiler knows, lie where `calls` does, and it would be read again at each row.
+    let columns = *calls;
     let mut counters = fresh;
     // By index: a row is a part of five columns, and the answers may end before the rows do.
     for i in 0..there {
-        let row = row_at(calls, i);
-        let called = steps::step(told, counters, row, calls.pool, media, copy, log, marks);
+        let row = row_at(&columns, i);
+        let called = steps::step(told, counters, row, columns.pool, media, copy, log, marks);
         store(answers, i, number_in(called.answer));
         counters = called.counters;
         if called.answer.is_err() & !carries {
