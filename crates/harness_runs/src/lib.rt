@@ -52,16 +52,19 @@ pub struct Run {
 }
 
 // The writer's run with what is armed, on a new device's media, and its ledger. Leaves the media, the operations recorded and the
-// ledger's entries.
-pub fn run_one(
+// ledger's entries. The operations go to three arrays that are lent apart: of a caller that looks at none of them, those that only a run
+// writes are then nobody's, and cost nothing.
+pub fn run_logged(
     writer: &Writer<'_>,
     armed: Option<Injection>,
     media: &mut [u8],
     copy: &mut [u8],
-    recorded: &mut Recorded,
+    kinds: &mut [u8; OPERATIONS],
+    offsets: &mut [u32; OPERATIONS],
+    lens: &mut [u32; OPERATIONS],
     entries: &mut Entries,
 ) -> Result<Run, Refusal>
-    ensures { run_left (ran_as result) media.new copy.new recorded.new.kinds recorded.new.offsets recorded.new.lens (entered_of entries.new.ids entries.new.states entries.new.torn) ≡ run_call writer.now.head armed writer.now.rows (columns_seen writer.now.calls) media.old copy.old recorded.old.kinds recorded.old.offsets recorded.old.lens (entered_of entries.old.ids entries.old.states entries.old.torn) }
+    ensures { run_left (ran_as result) media.new copy.new kinds.new offsets.new lens.new (entered_of entries.new.ids entries.new.states entries.new.torn) ≡ run_call writer.now.head armed writer.now.rows (columns_seen writer.now.calls) media.old copy.old kinds.old offsets.old lens.old (entered_of entries.old.ids entries.old.states entries.old.torn) }
 {
     let head = writer.head;
     // Kinds go up to a range. All else that is lent are arrays of a session's limits.
@@ -81,9 +84,9 @@ pub fn run_one(
     let told = armed_runs::told_by(head, armed);
     device::fill_erased(media);
     let mut log = LogMut {
-        kinds: &mut recorded.kinds,
-        offsets: &mut recorded.offsets,
-        lens: &mut recorded.lens,
+        kinds,
+        offsets,
+        lens,
         digests: &mut [0; OPERATIONS],
         changed: &mut [0; OPERATIONS],
         answered: &mut [0; OPERATIONS],
@@ -118,4 +121,27 @@ pub fn run_one(
         entries: count,
         failed: ended.failed,
     })
+}
+
+// The same, with the operations in the arrays of a `Recorded`.
+pub fn run_one(
+    writer: &Writer<'_>,
+    armed: Option<Injection>,
+    media: &mut [u8],
+    copy: &mut [u8],
+    recorded: &mut Recorded,
+    entries: &mut Entries,
+) -> Result<Run, Refusal>
+    ensures { run_left (ran_as result) media.new copy.new recorded.new.kinds recorded.new.offsets recorded.new.lens (entered_of entries.new.ids entries.new.states entries.new.torn) ≡ run_call writer.now.head armed writer.now.rows (columns_seen writer.now.calls) media.old copy.old recorded.old.kinds recorded.old.offsets recorded.old.lens (entered_of entries.old.ids entries.old.states entries.old.torn) }
+{
+    run_logged(
+        writer,
+        armed,
+        media,
+        copy,
+        &mut recorded.kinds,
+        &mut recorded.offsets,
+        &mut recorded.lens,
+        entries,
+    )
 }

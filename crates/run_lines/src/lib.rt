@@ -16,7 +16,7 @@ ghost use Rattle.harness_runs.specs.Running.{zeros, run_call, ran_as};
 ghost use Rattle.run_lines.specs.RunLine.{judge_put, line_put, run_end, end_of, armed_put, run_line_call};
 
 use basics::number_in;
-use harness_runs::{Entries, Recorded, Run, Writer};
+use harness_runs::{Entries, Run, Writer};
 use inject::{Injection, OpsRef};
 use model::LedgerRef;
 use pieces::Cursor;
@@ -109,7 +109,7 @@ impl Program for Judged {
 
 // ---- the run
 
-// A run on as much of the media as the script's line 1 says.
+// A run on as much of the media as the script's line 1 says. Nobody looks at its operations.
 fn run_on(
     writer: &Writer<'_>,
     armed: Option<Injection>,
@@ -119,18 +119,18 @@ fn run_on(
 ) -> Result<Run, Refusal>
     ensures { run_end (ran_as result) (entered_of entries.new.ids entries.new.states entries.new.torn) ≡ end_of (run_call writer.now.head armed writer.now.rows (columns_seen writer.now.calls) (take writer.now.head.geometry.capacity media.old) (take writer.now.head.geometry.capacity copy.old) (zeros 1024) (zeros 1024) (zeros 1024) (entered_of entries.old.ids entries.old.states entries.old.torn)) }
 {
-    let mut recorded = Recorded {
-        kinds: [0; OPERATIONS],
-        offsets: [0; OPERATIONS],
-        lens: [0; OPERATIONS],
-    };
+    let mut kinds = [0; OPERATIONS];
+    let mut offsets = [0; OPERATIONS];
+    let mut lens = [0; OPERATIONS];
     let capacity = basics::lower(writer.head.geometry.capacity as usize, MOST_CELLS);
-    harness_runs::run_one(
+    harness_runs::run_logged(
         writer,
         armed,
         &mut media[..capacity],
         &mut copy[..capacity],
-        &mut recorded,
+        &mut kinds,
+        &mut offsets,
+        &mut lens,
         entries,
     )
 }
