@@ -3,3 +3,4 @@ pub mod Correspond
 pub mod Refused
 pub mod Returned
 pub mod Recorded
+pub mod Turns
