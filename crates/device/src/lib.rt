@@ -46,7 +46,9 @@ impl From<u32> for OneWayBits {
 pub fn fill_erased(media: &mut [u8])
     ensures { media.new ≡ new_media (length media.old) }
 {
-    media.fill(ERASED);
+    for i in 0..media.len() {
+        media[i] = ERASED;
+    }
 }
 
 // Each cell becomes cell AND byte. Tells whether a cell changed, which is not whether bytes were offered: 0xFF over
