@@ -145,5 +145,6 @@ pub fn barrier(geometry: Geometry, media: &[u8]) -> Result<(), FaultError>
     ensures { number_in number_of_fault result ≡ barrier_refusal geometry (length media.now) }
 {
     geometry.check()?;
-    check_media(geometry, media.len())
+    let cells = media.len();
+    check_media(geometry, cells)
 }
