@@ -93,6 +93,16 @@ fn check_media(geometry: Geometry, media: usize) -> Result<(), FaultError>
     Ok(())
 }
 
+// Copies cells into a buffer of their length. (By a loop: `copy_from_slice` has a library for C need memmove from outside.)
+fn copy_cells(cells: &[u8], dst: &mut [u8])
+    requires { length dst.old ≡ length cells.now }
+    ensures { dst.new ≡ cells.now }
+{
+    for i in 0..cells.len() {
+        dst[i] = cells[i];
+    }
+}
+
 // Reads `dst.len()` cells at `offset` into `dst`. Refused, with `dst` as it was: 1 to 3 for the geometry, 6 for a buffer longer
 // than a u32 can count, 4 to 6 for the span, 7 for media that are not of capacity length.
 pub fn read(geometry: Geometry, media: &[u8], offset: u32, dst: &mut [u8]) -> Result<(), FaultError>
@@ -103,7 +113,7 @@ pub fn read(geometry: Geometry, media: &[u8], offset: u32, dst: &mut [u8]) -> Re
     check_media(geometry, media.len())?;
     let start = offset as usize;
     let read_end = start + dst.len();
-    dst.copy_from_slice(&media[start..read_end]);
+    copy_cells(&media[start..read_end], dst);
     Ok(())
 }
 

@@ -54,12 +54,12 @@ returns-in_err-check_media c =
     let t = refused-call _ _ n dst (part media start.offset (length dst)) (fault-nonzero _) in
     search rules
 
-pub slice_bounds-copy_from_slice-end : goal.slice_bounds-copy_from_slice-end
-slice_bounds-copy_from_slice-end c = fits (goal.at.slice_bounds-copy_from_slice-end c).In_ok-check_media
+pub slice_bounds-copy_cells-end : goal.slice_bounds-copy_cells-end
+slice_bounds-copy_cells-end c = fits (goal.at.slice_bounds-copy_cells-end c).In_ok-check_media
 
 pub returns : goal.returns
 unfolding read_call
 returns c =
     let start = c.args in
     let passed = (goal.at.returns c).In_ok-check_media in
-    accepted-call _ (accepted passed) _ _ _ (c.copy_from_slice.ensures.after ∙ part-lent start.media.now start.offset (length start.dst.now) (fits passed))
+    accepted-call _ (accepted passed) _ _ _ (c.copy_cells.ensures ∙ part-lent start.media.now start.offset (length start.dst.now) (fits passed))
