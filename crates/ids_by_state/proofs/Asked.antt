@@ -14,7 +14,11 @@ use Rattle.refusals.specs.declared.Refusal.{Refusal}
 use Rattle.model.specs.Ledger.{Entry}
 use Rattle.model.specs.Columns.{ledger_of, refused}
 use Rattle.model.specs.Answers.{Written}
+use Rattle.model.proofs.Codes.{Sound, refused_none}
 use Rattle.ids_by_state.specs.Answers.{picked_ids, picked_written}
+
+pub one_length : (is ss ts : List ℕ) → 0 ≡ refused is ss ts → (length ss ≡ length is) × (length ts ≡ length is)
+one_length is ss ts told = let g : Sound is ss ts = refused_none is ss ts (sym told) in (g.states, g.torns)
 
 module _ (test : Entry → Bool) (is ss ts column : List ℕ) where
   pub write-refused : (e : Refusal) → number_of e ≡ refused is ss ts → ◌≡◌ {A = Written} (record { answer = Err (number_of e); column = column }) (picked_written test is ss ts column)

@@ -45,29 +45,28 @@ impl Pick for IsAcknowledged {
     }
 }
 
-// How many ids are meant.
+// How many ids are meant. (By a sum, as the test is one of bytes: a loop without a way out is compiled to vectors.)
 fn count<T: Pick>(ledger: &LedgerRef<'_>) -> usize
+    requires { (length ledger.now.states.now ≡ length ledger.now.ids.now) × (length ledger.now.torn.now ≡ length ledger.now.ids.now) }
     ensures { result ≡ length (picked_ids T.picks (ledger_of ledger.now.ids.now ledger.now.states.now ledger.now.torn.now)) }
 {
-    ledger
-        .ids
-        .iter()
-        .zip(ledger.states)
-        .zip(ledger.torn)
-        .filter(|((id, state), torn)| T::picks(**id, **state, **torn))
-        .count()
+    let mut n = 0;
+    for i in 0..ledger.ids.len() {
+        n += usize::from(T::picks(ledger.ids[i], ledger.states[i], ledger.torn[i]));
+    }
+    n
 }
 
-// Writes those ids into a column that has room for them, in order from its front. (By a count: of what a `zip` of `iter_mut` wrote
-// a proof knows the length alone.)
+// Writes those ids into a column that has room for them, in order from its front.
 fn fill<T: Pick>(ledger: &LedgerRef<'_>, column: &mut [u32])
-    requires { length (picked_ids T.picks (ledger_of ledger.now.ids.now ledger.now.states.now ledger.now.torn.now)) ≤ length column.old }
+    requires { ((length ledger.now.states.now ≡ length ledger.now.ids.now) × (length ledger.now.torn.now ≡ length ledger.now.ids.now)) × (length (picked_ids T.picks (ledger_of ledger.now.ids.now ledger.now.states.now ledger.now.torn.now)) ≤ length column.old) }
     ensures { column.new ≡ picked_ids T.picks (ledger_of ledger.now.ids.now ledger.now.states.now ledger.now.torn.now) ++ drop (length (picked_ids T.picks (ledger_of ledger.now.ids.now ledger.now.states.now ledger.now.torn.now))) column.old }
 {
     let mut n = 0;
-    for ((id, state), torn) in ledger.ids.iter().zip(ledger.states).zip(ledger.torn) {
-        if T::picks(*id, *state, *torn) {
-            column[n] = *id;
+    for i in 0..ledger.ids.len() {
+        let id = ledger.ids[i];
+        if T::picks(id, ledger.states[i], ledger.torn[i]) {
+            column[n] = id;
             n += 1;
         }
     }
