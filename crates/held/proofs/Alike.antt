@@ -1,8 +1,10 @@
 -- Two lists compared, and the rows of columns.
 --     same-lengths, same_true, same_self, same-pointwise   of lists that are not as long, that are equal, and as `==` compares them
---     op-true, op_self, op-eq                              two operations that are alike are one
+--     all-same                                             and as a test of all places compares them
+--     op-true, op_self                                     two operations that are alike are one
+--     program-row, erase-row, barrier-row                  and an operation that a row holds
 --     mark-true, mark-self, mark-eq                        and two marks
---     row_of, through-length, ops-given                    a run's operations: how many, and as an iterator over the rows gives them
+--     row_of, through-length, ops-given                    a run's operations, as an iterator over the rows gives them
 -- Assumes nothing.
 use mathlib.Core.Path.{◌≡◌, refl, sym, ap, ◌∙◌}
 use mathlib.Core.Bool.{Bool, true, false, ◌&&◌, true≢false}
@@ -10,14 +12,14 @@ use mathlib.Core.List.{List, [], ◌∷◌, map}
 use Prim.Native.Nat.{ℕ, zero, suc, ◌≤◌, ◌<◌}
 use native.Mathlib.Nat.{not-suc-le-zero, le_of_suc-le-suc, suc-ne-zero, suc_inj}
 use native.Mathlib.Omega.{arith}
-use lib.Dec.{eqb}
+use lib.Dec.{eqb, leb}
 use lib.ListN.{length, take, get_or, length-take}
 use lib.Seq.{length-take-le}
 use lib.Pointwise.{pointwise}
-use borrow.Author.Tests.{eq-eqb, eqb-true}
+use borrow.Author.Tests.{eq-eqb, ne_eqb, eqb-true, le-leb}
 use Rattle.std.specs.Prelude.{Option, Some, None}
 use Rattle.std.specs.Option.{option_eq}
-use Rattle.std.specs.List.{range_with_len}
+use Rattle.std.specs.List.{list_all, range_with_len}
 use Rattle.std.proofs.lemmas.List.{get_or-take, ext_get_or}
 use Rattle.std.proofs.lemmas.List.FromFn.{get_or-map-range_with_len, length-map-range_with_len}
 use Rattle.inject.specs.declared.Op.{Op}
@@ -71,6 +73,12 @@ same-pointwise f [] (y ∷ ys) = refl
 same-pointwise f (x ∷ xs) [] = refl
 same-pointwise f (x ∷ xs) (y ∷ ys) = ap (λ (b : Bool). f x y && b) (same-pointwise f xs ys)
 
+-- two lists of which each element is made from a number, by a test of all the numbers
+pub all-same : {A : Type 0} (f : A → A → Bool) (a b : ℕ → A) (is : List ℕ) → list_all (λ i. f (a i) (b i)) is ≡ same f (map a is) (map b is)
+unfolding same
+all-same f a b [] = refl
+all-same f a b (i ∷ is) = ap (λ (t : Bool). f (a i) (b i) && t) (all-same f a b is)
+
 -- ---- operations
 
 pub ops-length : (ks os ls : List ℕ) → length os ≡ length ks → length ls ≡ length ks → length (ops_of ks os ls) ≡ length ks
@@ -113,23 +121,27 @@ op_self (Program a m) = simp (eq-eqb a a refl, eq-eqb m m refl)
 op_self (Erase a m) = simp (eq-eqb a a refl, eq-eqb m m refl)
 op_self Barrier = refl
 
--- two operations as `==` compares them, kind by kind
-module _ (eq : Op → Op → Bool) (programs : (a m b n : ℕ) → eq (Program a m) (Program b n) ≡ (eqb a b && eqb m n))
-    (erases : (a m b n : ℕ) → eq (Erase a m) (Erase b n) ≡ (eqb a b && eqb m n)) (barriers : eq Barrier Barrier ≡ true)
-    (program-erase : (a m b n : ℕ) → eq (Program a m) (Erase b n) ≡ false) (program-barrier : (a m : ℕ) → eq (Program a m) Barrier ≡ false)
-    (erase-program : (a m b n : ℕ) → eq (Erase a m) (Program b n) ≡ false) (erase-barrier : (a m : ℕ) → eq (Erase a m) Barrier ≡ false)
-    (barrier-program : (b n : ℕ) → eq Barrier (Program b n) ≡ false) (barrier-erase : (b n : ℕ) → eq Barrier (Erase b n) ≡ false) where
-  pub op-eq : (x y : Op) → eq x y ≡ same_op x y
-  unfolding same_op
-  op-eq (Program a m) (Program b n) = programs a m b n
-  op-eq (Program a m) (Erase b n) = program-erase a m b n
-  op-eq (Program a m) Barrier = program-barrier a m
-  op-eq (Erase a m) (Program b n) = erase-program a m b n
-  op-eq (Erase a m) (Erase b n) = erases a m b n
-  op-eq (Erase a m) Barrier = erase-barrier a m
-  op-eq Barrier (Program b n) = barrier-program b n
-  op-eq Barrier (Erase b n) = barrier-erase b n
-  op-eq Barrier Barrier = barriers
+-- an operation and a row, kind by kind
+no-span : (k o l : ℕ) → op_of (suc (suc k)) o l ≡ Barrier
+no-span k o l = rw (ne_eqb (suc (suc k)) 0 (λ q. omega arith), ne_eqb (suc (suc k)) 1 (λ q. omega arith))
+
+pub program-row : (a m k o l : ℕ) → (eqb k 0 && eqb a o && eqb m l) ≡ same_op (Program a m) (op_of k o l)
+unfolding same_op
+program-row a m zero o l = refl
+program-row a m (suc zero) o l = refl
+program-row a m (suc (suc k)) o l = rw (no-span k o l, ne_eqb (suc (suc k)) 0 (λ q. omega arith))
+
+pub erase-row : (a m k o l : ℕ) → (eqb k 1 && eqb a o && eqb m l) ≡ same_op (Erase a m) (op_of k o l)
+unfolding same_op
+erase-row a m zero o l = refl
+erase-row a m (suc zero) o l = refl
+erase-row a m (suc (suc k)) o l = rw (no-span k o l, ne_eqb (suc (suc k)) 1 (λ q. omega arith))
+
+pub barrier-row : (k o l : ℕ) → leb 2 k ≡ same_op Barrier (op_of k o l)
+unfolding same_op
+barrier-row zero o l = refl
+barrier-row (suc zero) o l = refl
+barrier-row (suc (suc k)) o l = rw (no-span k o l, le-leb 2 (suc (suc k)) (omega arith))
 
 label-true : (a b : Label) → same_label a b ≡ true → a ≡ b
 unfolding same_label

@@ -5,14 +5,15 @@
 // input: columns are tested first (12, 13).
 #![tactic(auto)]
 
-ghost use Rattle.std.specs.Prelude.{◌≡◌, suc, get_or, eqb};
+ghost use Rattle.std.specs.Prelude.{◌≡◌, ◌<◌, suc, length, get_or, eqb};
 ghost use Rattle.basics.specs.Replies.{numbered};
 ghost use Rattle.refusals.specs.Numbers.{number_of};
+ghost use Rattle.inject.specs.Steps.{op_at};
 ghost use Rattle.held.specs.Held.{recorded_in, is_relabelled, is_opening, same, same_op, same_mark, end_of, ops_through, digests_through, marks_through, same_through, held_call};
 ghost use Rattle.held.specs.Scans.{malformed, short_in, mark_of, marked_as, Fits};
 
 use basics::cell;
-use inject::{Injection, Interruption, OpsRef, Progress};
+use inject::{Injection, Interruption, Op, OpsRef, Progress};
 use refusals::{Refusal, columns_refusal};
 use session::{Counters, MarksRef};
 
@@ -115,17 +116,51 @@ impl Sound<'_> {
     }
 }
 
+// The operation in a row that each column has. (`op_at` asks each of them for it.)
+fn op_in(ops: OpsRef<'_>, at: usize) -> Op
+    requires { (at < length ops.kinds.now) × (at < length ops.offsets.now) × (at < length ops.lens.now) }
+    ensures { result ≡ op_at ops.entry.kinds.now ops.entry.offsets.now ops.entry.lens.now at }
+{
+    match ops.kinds[at] {
+        0 => Op::Program {
+            offset: ops.offsets[at],
+            len: ops.lens[at],
+        },
+        1 => Op::Erase {
+            offset: ops.offsets[at],
+            len: ops.lens[at],
+        },
+        _ => Op::Barrier,
+    }
+}
+
+// Whether a row that each column has holds an operation. (Its kind says what to read of the row: for `==` an `Op` would be made of it.)
+fn is_in(op: Op, ops: OpsRef<'_>, at: usize) -> bool
+    requires { (at < length ops.kinds.now) × (at < length ops.offsets.now) × (at < length ops.lens.now) }
+    ensures { result ≡ same_op op (op_at ops.entry.kinds.now ops.entry.offsets.now ops.entry.lens.now at) }
+{
+    let kind = ops.kinds[at];
+    match op {
+        Op::Program { offset, len } => {
+            (kind == 0) & (offset == ops.offsets[at]) & (len == ops.lens[at])
+        }
+        Op::Erase { offset, len } => {
+            (kind == 1) & (offset == ops.offsets[at]) & (len == ops.lens[at])
+        }
+        Op::Barrier => kind >= 2,
+    }
+}
+
 fn same_ops(free: &Sound<'_>, run: &Sound<'_>, op: usize) -> bool
     ensures { result ≡ same same_op (ops_through (suc op) (recorded_in free.now.recorded)) (ops_through (suc op) (recorded_in run.now.recorded)) }
 {
-    let free_end = free.end_of(op);
-    let end = run.end_of(op);
-    if free_end != end {
+    let end = free.end_of(op);
+    if run.end_of(op) != end {
         return false;
     }
-    let free_ops = (0..free_end).map(|at| free.recorded.ops.op_at(at));
-    let ops = (0..end).map(|at| run.recorded.ops.op_at(at));
-    free_ops.eq(ops)
+    let free_ops = free.recorded.ops;
+    let ops = run.recorded.ops;
+    (0..end).all(|at| is_in(op_in(free_ops, at), ops, at))
 }
 
 fn same_digests(free: &Sound<'_>, run: &Sound<'_>, op: usize) -> bool
