@@ -2,12 +2,12 @@
 --     any-more, any-all            a loop over the pairs: what has been passed, one pair more, and all of them
 --     any_append, any_same         lists that are put together; no element differs from itself
 --     any_none, differing          no pair differs: the lists are the same; some does: so do the lists, as `!=` of two slices tells
---     pair-blocks, written-blocks  a search by blocks and behind them; `found` and `passed` take its one step apart
+--     pair-blocks, fill-block      a search by blocks and behind them; `found` and `passed` take its one step apart
 -- Assumes nothing.
 use mathlib.Core.Path.{◌≡◌, refl, sym, ap, ap₂, ◌∙◌}
 use mathlib.Core.Bool.{Bool, true, false, not, ◌&&◌, ◌||◌, or-false, or_assoc}
 use mathlib.Core.List.{List, [], ◌∷◌, ◌++◌}
-use Prim.Native.Nat.{ℕ, zero, suc, ◌+◌, ◌*◌, ◌≤◌, ◌<◌}
+use Prim.Native.Nat.{ℕ, zero, suc, ◌+◌, ◌-◌, ◌*◌, ◌≤◌, ◌<◌}
 use native.Mathlib.Nat.{not-suc-le-zero, le_of_suc-le-suc, suc-ne-zero, suc_inj, zero-mul}
 use native.Mathlib.Numerals.{add-one}
 use native.Mathlib.Omega.{arith}
@@ -131,11 +131,8 @@ written-split zero l = refl
 written-split (suc k) [] = refl
 written-split (suc k) (x ∷ xs) = ap (λ (b : Bool). unequal x ff || b) (written-split k xs) ∙ sym (or_assoc (unequal x ff) (written (take k xs)) (written (drop k xs)))
 
--- the cells as blocks of n and what is left behind k of them
-pub written-blocks : (n k : ℕ) (l : List ℕ) → written l ≡ (list_any written (first_chunks n k l) || written (drop (k * n) l))
-written-blocks n zero l = rw (zero-mul n)
-written-blocks n (suc k) l =
-    let e : n + k * n ≡ suc k * n = omega arith in
-    written-split n l
-    ∙ ap (λ (b : Bool). written (take n l) || b) (written-blocks n k (drop n l) ∙ rw (drop-drop (k * n) n l, e))
-    ∙ sym (or_assoc (written (take n l)) (list_any written (first_chunks n k (drop n l))) (written (drop (suc k * n) l)))
+-- the block of k from i on, as the code lends it, and what is left behind it
+pub fill-block : (l : List ℕ) (i k : ℕ) (b : Bool) → b ≡ written (take (i + k - i) (drop i l)) → written (drop i l) ≡ (b || written (drop (i + k) l))
+fill-block l i k b e =
+    let n : i + k - i ≡ k = omega arith in
+    rw (e, n, ← drop-drop k i l) (written-split k (drop i l))

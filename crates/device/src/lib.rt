@@ -94,13 +94,22 @@ fn any_written(cells: &[u8]) -> bool
     found
 }
 
-// Whether every cell is ERASED, block by block. (Each scan by blocks stands by itself: `device_questions` has two slices at once,
-// `id_columns` and `hex_pairs` other blocks and a place for an answer, so one function for all would take two closures and a size.)
+// Whether every cell is ERASED, block by block. (By an index into the cells: a search of `as_chunks` stays in an erase that drops
+// the answer, as `device_calls` does, and triples its time. Each scan by blocks stands by itself: `device_questions` has two slices
+// at once, `id_columns` and `hex_pairs` other blocks and a place for an answer, so one function for all would take two closures and
+// a size.)
 fn slice_is_erased(cells: &[u8]) -> bool
     ensures { result ≡ not (any_pair unequal cells.now (replicate (length cells.now) ff)) }
 {
-    let (blocks, rest) = cells.as_chunks::<BLOCK>();
-    !blocks.iter().any(|block| any_written(block)) && !any_written(rest)
+    let mut i = 0;
+    while BLOCK <= cells.len() - i {
+        let block_end = i + BLOCK;
+        if any_written(&cells[i..block_end]) {
+            return false;
+        }
+        i = block_end;
+    }
+    !any_written(&cells[i..])
 }
 
 // Every cell becomes ERASED. Tells whether a cell changed.
