@@ -45,7 +45,7 @@ impl Pick for IsAcknowledged {
     }
 }
 
-// How many ids are meant. (By a sum, as the test is one of bytes: a loop without a way out is compiled to vectors.)
+// How many ids are meant. (By a sum: a loop with no branch is compiled to vectors.)
 fn count<T: Pick>(ledger: &LedgerRef<'_>) -> usize
     requires { (length ledger.now.states.now ≡ length ledger.now.ids.now) × (length ledger.now.torn.now ≡ length ledger.now.ids.now) }
     ensures { result ≡ length (picked_ids T.picks (ledger_of ledger.now.ids.now ledger.now.states.now ledger.now.torn.now)) }
