@@ -52,6 +52,10 @@ pub places-none : (n : ℕ) → n ≡ 0 → Places n 1
 unfolding decimal_in
 places-none n z = rw z (record { is = refl; few = omega arith })
 
+pub places-one : (n : ℕ) → n < 10 → Places n 1
+places-one zero h = places-none zero refl
+places-one (suc n) h = places-some (suc n) 0 (omega arith) (omega (arith, h)) (omega arith)
+
 -- ---- writing them, the last one first
 
 -- the last k digits
@@ -97,4 +101,4 @@ module _ (n at : ℕ) (out : List ℕ) (count : ℕ) (w : Places n count) where
       let b : put_mid at (at + count - at) out digits ≡ overlaid out at digits = part-back out at count (omega arith) digits (ap length e ∙ sym c) in
       rw (le-leb _ _ l, b, e, c)
 
-pub ruleset decimals = (places-some, places-none, spelling-start, print-all)
+pub ruleset decimals = (places-some, places-none, places-one, spelling-start, print-all)

@@ -16,6 +16,16 @@ pub const LF: u8 = 10;
 pub fn places(n: u64) -> usize
     ensures { Places n result }
 {
+    // Most numbers printed are short: a comparison takes less time than the logarithm.
+    if n < 10 {
+        return 1;
+    }
+    if n < 100 {
+        return 2;
+    }
+    if n < 1000 {
+        return 3;
+    }
     match n.checked_ilog10() {
         Some(power) => power as usize + 1,
         None => 1,
